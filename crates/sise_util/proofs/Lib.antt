@@ -1,0 +1,4 @@
+pub mod Lists
+pub mod Ranges
+pub mod ClassLaws
+pub mod AtomLaws

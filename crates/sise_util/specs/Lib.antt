@@ -1,0 +1,4 @@
+pub mod Chars
+pub mod Classes
+pub mod Atom
+pub mod Utf8

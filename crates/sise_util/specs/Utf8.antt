@@ -1,0 +1,100 @@
+-- A character by RFC 3629: the syntax of its octets (section 4), its code point (section 3), and valid UTF-8.
+-- Assumes nothing.
+use Prim.Native.Nat.{ℕ, _+_, _-_, _*_, _/_, _%_, _≤_, _<_}
+use mathlib.Core.Path.{_≡_}
+use mathlib.Core.Bool.{Bool, true, false, _&&_, cond}
+use mathlib.Core.List.{List, [], _∷_, _++_, List·Memᴰ}
+use lib.Dec.{ltb}
+use lib.ListN.{length, take}
+use Rattle.sise_util.specs.Chars.{within}
+use Rattle.sise_util.specs.declared.utf8.Character.{Character}
+use Rattle.sise_util.specs.declared.utf8.Character.the-variants.{Well, Ill}
+
+pub record Range : Type 0 where
+  pub lo : ℕ
+  pub hi : ℕ
+
+abbrev pub range : ℕ → ℕ → Range
+range a b = record { lo = a; hi = b }
+
+-- UTF8-tail = %x80-BF
+abbrev pub tail : Range
+tail = range 0x80 0xBF
+
+-- an alternative of section 4's syntax: the octets' ranges; and the bits that mark its first octet in the table of section 3
+pub record Form : Type 0 where
+  pub mark : ℕ
+  pub first : Range
+  pub rest : List Range
+
+abbrev pub form : ℕ → Range → List Range → Form
+form m r rs = record { mark = m; first = r; rest = rs }
+
+-- UTF8-1, UTF8-2, UTF8-3 and UTF8-4, an alternative a row, in the standard's order
+unfoldable pub forms : List Form
+forms =
+    form 0x00 (range 0x00 0x7F) [] ∷
+    form 0xC0 (range 0xC2 0xDF) (tail ∷ []) ∷
+    form 0xE0 (range 0xE0 0xE0) (range 0xA0 0xBF ∷ tail ∷ []) ∷
+    form 0xE0 (range 0xE1 0xEC) (tail ∷ tail ∷ []) ∷
+    form 0xE0 (range 0xED 0xED) (range 0x80 0x9F ∷ tail ∷ []) ∷
+    form 0xE0 (range 0xEE 0xEF) (tail ∷ tail ∷ []) ∷
+    form 0xF0 (range 0xF0 0xF0) (range 0x90 0xBF ∷ tail ∷ tail ∷ []) ∷
+    form 0xF0 (range 0xF1 0xF3) (tail ∷ tail ∷ tail ∷ []) ∷
+    form 0xF0 (range 0xF4 0xF4) (range 0x80 0x8F ∷ tail ∷ tail ∷ []) ∷
+    []
+
+-- one octet in each range, and no more
+pub data Fits : List Range → List ℕ → Type 0 where
+  done : Fits [] []
+  octet : {r : Range} {rs : List Range} {b : ℕ} {l : List ℕ} → r .lo ≤ b → b ≤ r .hi → Fits rs l → Fits (r ∷ rs) (b ∷ l)
+
+-- UTF8-char: a byte string that matches a row
+pub record Utf8Char (s : List ℕ) : Type 0 where
+  pub row : Form
+  pub listed : List·Memᴰ row forms
+  pub fits : Fits (row .first ∷ row .rest) s
+
+-- UTF8-octets = *( UTF8-char ): valid UTF-8
+pub data Utf8Octets : List ℕ → Type 0 where
+  none : Utf8Octets []
+  next : {s l : List ℕ} → Utf8Char s → Utf8Octets l → Utf8Octets (s ++ l)
+
+-- section 3: the free bits of the octets, six in each but the first
+unfoldable pub moreBits : ℕ → List ℕ → ℕ
+moreBits c [] = c
+moreBits c (b ∷ l) = moreBits (c * 64 + (b - 0x80)) l
+
+unfoldable pub codePoint : ℕ → List ℕ → ℕ
+codePoint m [] = 0
+codePoint m (b ∷ l) = moreBits (b - m) l
+
+-- the bytes begin with one octet of each range
+unfoldable pub begins : List Range → List ℕ → Bool
+begins [] l = true
+begins (r ∷ rs) [] = false
+begins (r ∷ rs) (b ∷ l) = within (r .lo) (r .hi) b && begins rs l
+
+-- the character by the first row that fits
+unfoldable pub byRows : List Form → List ℕ → Character
+byRows [] l = Ill
+byRows (f ∷ fs) l =
+    let n = length (f .first ∷ f .rest) in
+    elim (begins (f .first ∷ f .rest) l) [ true ↦ Well (codePoint (f .mark) (take n l)) n | false ↦ byRows fs l ]
+
+-- the character that the bytes begin with: its code point and its number of bytes, or none that is well formed
+unfoldable pub character : List ℕ → Character
+character l = byRows forms l
+
+-- section 3: "Char. number range" and "UTF-8 octet sequence"
+unfoldable pub octetsOf : ℕ → List ℕ
+octetsOf c =
+    cond (ltb c 0x80) (c ∷ []) (
+    cond (ltb c 0x800) ((0xC0 + c / 64) ∷ (0x80 + c % 64) ∷ []) (
+    cond (ltb c 0x10000) ((0xE0 + c / 4096) ∷ (0x80 + c / 64 % 64) ∷ (0x80 + c % 64) ∷ [])
+    ((0xF0 + c / 262144) ∷ (0x80 + c / 4096 % 64) ∷ (0x80 + c / 64 % 64) ∷ (0x80 + c % 64) ∷ [])))
+
+-- the code points that UTF-8 encodes: U+0000 to U+10FFFF but D800 to DFFF (section 3)
+pub record Scalar (c : ℕ) : Type 0 where
+  pub below : c < 0x110000
+  pub plain : 0xD800 ≤ c → c ≤ 0xDFFF → ⊥

@@ -1,0 +1,42 @@
+// The classes of bytes, by which the reader goes from state to state. Those that share an arm of a `match` of the reader have no neighbouring
+// numbers: neighbours would become a test of a range, and the arms' order would be another.
+use crate::table::CLASSES;
+ghost use mathlib.Core.Path.{_≡_};
+ghost use Rattle.sise_util.specs.Classes.{classOf, classNumber, classTable};
+
+pub const SPACE: u8 = 0;
+
+pub const QUOTE: u8 = 1;
+
+pub const TAB: u8 = 2;
+
+pub const ATOM: u8 = 3;
+
+pub const LINE_END: u8 = 4;
+
+pub const BACKSLASH: u8 = 5;
+
+pub const OTHER: u8 = 6;
+
+pub const SEMICOLON: u8 = 7;
+
+pub const LEFT_PAREN: u8 = 8;
+
+pub const RIGHT_PAREN: u8 = 9;
+
+pub const PRINTABLE: u8 = 10;
+
+// The whole table, for a caller that looks up many bytes: a constant array is built anew at each use.
+pub fn classes() -> [u8; 256]
+    ensures { λ r. ⌜ r ≡ classTable ⌝ }
+{
+    CLASSES
+}
+
+// The class of a byte.
+pub fn class_of(chr: u8) -> u8
+    ensures { λ r. ⌜ r ≡ classNumber (classOf chr) ⌝ }
+{
+    let table = classes();
+    table[chr as usize]
+}

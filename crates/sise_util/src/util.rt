@@ -1,0 +1,96 @@
+// The characters of atoms and strings, and the check of an atom.
+ghost use mathlib.Core.Path.{_≡_};
+ghost use Rattle.sise_util.specs.Chars.{isAtomChr, isStringChr, isEscapedChr};
+ghost use Rattle.sise_util.specs.Atom.{isAtom, isAtomPrefix};
+
+// Whether `chr` is an atom character outside a string.
+pub fn is_atom_chr(chr: u8) -> bool
+    ensures { λ r. ⌜ r ≡ isAtomChr chr ⌝ }
+{
+    match chr {
+        b'!'
+        | b'#'
+        | b'$'
+        | b'%'
+        | b'&'
+        | b'*'
+        | b'+'
+        | b'-'
+        | b'.'
+        | b'/'
+        | b'0'..=b'9'
+        | b':'
+        | b'<'
+        | b'='
+        | b'>'
+        | b'?'
+        | b'@'
+        | b'A'..=b'Z'
+        | b'_'
+        | b'a'..=b'z'
+        | b'~' => true,
+        _ => false,
+    }
+}
+
+// Whether `chr` is a string character: one that stands inside a string without a `\`.
+pub fn is_atom_string_chr(chr: u8) -> bool
+    ensures { λ r. ⌜ r ≡ isStringChr chr ⌝ }
+{
+    match chr {
+        b' '..=b'!' | b'#'..=b'[' | b']'..=b'~' => true,
+        _ => false,
+    }
+}
+
+// Whether `chr` may follow a `\` in a string.
+fn is_escaped_chr(chr: u8) -> bool
+    ensures { λ r. ⌜ r ≡ isEscapedChr chr ⌝ }
+{
+    match chr {
+        b'"' | b'\\' => true,
+        _ => is_atom_string_chr(chr),
+    }
+}
+
+// Whether `atom` is an atom: one or more atom characters and strings.
+pub fn check_atom(atom: &[u8]) -> bool
+    ensures { λ r. ⌜ r ≡ isAtom (now (atom .entry)) ⌝ }
+{
+    if atom.len() == 0 {
+        return false;
+    }
+    let mut at = 0;
+    let mut in_string = false;
+    while at < atom.len() {
+        let chr = atom[at];
+        at += 1;
+        if !in_string {
+            if chr == b'"' {
+                in_string = true;
+            } else if !is_atom_chr(chr) {
+                return false;
+            }
+        } else if chr == b'"' {
+            in_string = false;
+        } else if chr == b'\\' {
+            if atom.len() <= at || !is_escaped_chr(atom[at]) {
+                return false;
+            }
+            at += 1;
+        } else if !is_atom_string_chr(chr) {
+            return false;
+        }
+    }
+    !in_string
+}
+
+// Whether the first `len` bytes of `rest`, a text from an atom's first byte on, are an atom; a length past its end is none.
+pub fn check_atom_prefix(rest: &[u8], len: usize) -> bool
+    ensures { λ r. ⌜ r ≡ isAtomPrefix (now (rest .entry)) len ⌝ }
+{
+    if rest.len() < len {
+        return false;
+    }
+    check_atom(&rest[..len])
+}
