@@ -2,3 +2,4 @@ pub mod Lists
 pub mod Ranges
 pub mod ClassLaws
 pub mod AtomLaws
+pub mod Utf8Steps

@@ -2,10 +2,10 @@
 -- Assumes nothing.
 use Prim.Native.Nat.{ℕ, _+_, _-_, _*_, _/_, _%_, _≤_, _<_}
 use mathlib.Core.Path.{_≡_}
-use mathlib.Core.Bool.{Bool, true, false, _&&_, cond}
+use mathlib.Core.Bool.{Bool, true, false, cond}
 use mathlib.Core.List.{List, [], _∷_, _++_, List·Memᴰ}
 use lib.Dec.{ltb}
-use lib.ListN.{length, take}
+use lib.ListN.{length}
 use Rattle.sise_util.specs.Chars.{within}
 use Rattle.sise_util.specs.declared.utf8.Character.{Character}
 use Rattle.sise_util.specs.declared.utf8.Character.the-variants.{Well, Ill}
@@ -60,27 +60,26 @@ pub data Utf8Octets : List ℕ → Type 0 where
   none : Utf8Octets []
   next : {s l : List ℕ} → Utf8Char s → Utf8Octets l → Utf8Octets (s ++ l)
 
--- section 3: the free bits of the octets, six in each but the first
-unfoldable pub moreBits : ℕ → List ℕ → ℕ
-moreBits c [] = c
-moreBits c (b ∷ l) = moreBits (c * 64 + (b - 0x80)) l
+-- the octets after the first: each in its range, with six more bits of the code point (section 3); c is what the octets before have of it, and n
+-- the number of all octets
+unfoldable pub follow : ℕ → ℕ → List Range → List ℕ → Character
+follow c n [] l = Well c n
+follow c n (r ∷ rs) [] = Ill
+follow c n (r ∷ rs) (b ∷ l) =
+    elim (within (r .lo) (r .hi) b) [
+      | true ↦ follow (c * 64 + (b - 0x80)) n rs l
+      | false ↦ Ill
+    ]
 
-unfoldable pub codePoint : ℕ → List ℕ → ℕ
-codePoint m [] = 0
-codePoint m (b ∷ l) = moreBits (b - m) l
-
--- the bytes begin with one octet of each range
-unfoldable pub begins : List Range → List ℕ → Bool
-begins [] l = true
-begins (r ∷ rs) [] = false
-begins (r ∷ rs) (b ∷ l) = within (r .lo) (r .hi) b && begins rs l
-
--- the character by the first row that fits
+-- the row in whose first range the first octet is
 unfoldable pub byRows : List Form → List ℕ → Character
 byRows [] l = Ill
-byRows (f ∷ fs) l =
-    let n = length (f .first ∷ f .rest) in
-    elim (begins (f .first ∷ f .rest) l) [ true ↦ Well (codePoint (f .mark) (take n l)) n | false ↦ byRows fs l ]
+byRows (f ∷ fs) [] = Ill
+byRows (f ∷ fs) (b ∷ l) =
+    elim (within (f .first .lo) (f .first .hi) b) [
+      | true ↦ follow (b - f .mark) (1 + length (f .rest)) (f .rest) l
+      | false ↦ byRows fs (b ∷ l)
+    ]
 
 -- the character that the bytes begin with: its code point and its number of bytes, or none that is well formed
 unfoldable pub character : List ℕ → Character
