@@ -3,3 +3,4 @@ pub mod Ranges
 pub mod ClassLaws
 pub mod AtomLaws
 pub mod Utf8Steps
+pub mod Utf8Laws

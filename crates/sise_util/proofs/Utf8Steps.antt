@@ -111,11 +111,11 @@ abbrev pub Outside : ℕ → List Form → Type 0
 Outside b [] = Unit {0}
 Outside b (f ∷ fs) = (f .first .lo ≤ b → b ≤ f .first .hi → ⊥) × Outside b fs
 
-within-no : (lo hi b : ℕ) → (lo ≤ b → b ≤ hi → ⊥) → within lo hi b ≡ false
+pub within-no : (lo hi b : ℕ) → (lo ≤ b → b ≤ hi → ⊥) → within lo hi b ≡ false
 within-no lo hi b d = split (within lo hi b) (λ e. absurd (d (within-from lo hi b e) (within-to lo hi b e))) (λ e. e)
 
 -- a row that is none
-abbrev noForm : Form
+abbrev pub noForm : Form
 noForm = form 0 (range 1 0) []
 
 abbrev pub Begins : ℕ → Form → Type 0
