@@ -1,5 +1,6 @@
 pub mod Lists
 pub mod Ranges
+pub mod Counts
 pub mod ClassLaws
 pub mod AtomLaws
 pub mod Utf8Steps

@@ -3,14 +3,14 @@
 -- Assumes nothing.
 use mathlib.Core.Path.{_≡_, refl, sym, ap, ap₂, _∙_, subst}
 use mathlib.Core.Bool.{Bool, true, false, _&&_, cond, true≢false}
-use mathlib.Core.Logic.{_↔_}
+use mathlib.Core.Logic.{_↔_, _⊎_, inl, inr}
 use mathlib.Core.List.{List, [], _∷_, _++_, List·Memᴰ, List·Memᴰ·head, List·Memᴰ·tail, append-nil}
 use Prim.Native.Nat.{ℕ, zero, suc, _+_, _-_, _*_, _/_, _%_, _≤_, _<_, zero-le}
 use native.Mathlib.Nat.{sub-zero, not-suc-le-zero, le-of-suc-le-suc}
 use native.Mathlib.Omega.{arith}
 use lib.Dec.{T, leb, ltb, leb→le, lit<}
-use lib.ListN.{length, take, getD, length-append}
-use lib.Seq.{take-at, take-length}
+use lib.ListN.{length, take, drop, getD, length-append}
+use lib.Seq.{take-at, take-length, drop-at, drop-append-seam}
 use borrow.Author.Tests.{lt-ltb, le-ltb, ltb-true, ltb-false}
 use Rattle.sise_util.specs.Chars.{within}
 use Rattle.sise_util.specs.Utf8.{Range, range, tail, Form, form, forms, Fits, done, octet, Utf8Char, Utf8Octets, none, next, follow, byRows, character, octetsOf, Scalar}
@@ -129,7 +129,7 @@ one-more r {b = b} w x =
       parts = ap (λ (m : List ℕ). b ∷ m) (x .parts);
       fits = octet (within-from (r .lo) (r .hi) b w) (within-to (r .lo) (r .hi) b w) (x .fits);
       code = x .code;
-      count = x .count
+      count = x .count;
     }
 
 follow-read : (rs : List Range) (c n : ℕ) (l : List ℕ) {d k : ℕ} → follow c n rs l ≡ Well d k → Read rs c n l d k
@@ -168,7 +168,7 @@ here f fs b l {d} {k} w x =
       parts = ap (λ (m : List ℕ). b ∷ m) (x .parts);
       fits = octet (within-from (f .first .lo) (f .first .hi) b w) (within-to (f .first .lo) (f .first .hi) b w) (x .fits);
       code = x .code;
-      count = count (fits-length (x .fits))
+      count = count (fits-length (x .fits));
     }
   where
     count : length (f .rest) ≡ length (x .octets) → k ≡ suc (length (x .octets))
@@ -199,11 +199,12 @@ all-of s (b ∷ t) l e h = absurd (more (ap length e ∙ length-append s (b ∷ 
 
 -- a byte string is a well-formed character exactly if it matches a row
 pub well-formed : (s : List ℕ) → ((c : ℕ) × (character s ≡ Well c (length s))) ↔ Utf8Char s
-well-formed s =
-    (λ w.
-    let x = found s (w .1) in
-    subst Utf8Char (sym (all-of (x .octets) (x .left) s (x .parts) (x .count))) (record { row = x .row; listed = x .listed; fits = x .fits }),
-    λ u. (codePoint (u .row) s, ap character (sym (append-nil s)) ∙ reads-char u []))
+well-formed s = (
+  λ w.
+      let x = found s (w .1) in
+      subst Utf8Char (sym (all-of (x .octets) (x .left) s (x .parts) (x .count))) (record { row = x .row; listed = x .listed; fits = x .fits }),
+  λ u. (codePoint (u .row) s, ap character (sym (append-nil s)) ∙ reads-char u []),
+)
 
 -- the octets of a code point, by its size
 
@@ -255,7 +256,7 @@ from-two : (a b : ℕ) → 0xC2 ≤ a → a ≤ 0xDF → 0x80 ≤ b → b ≤ 0x
 from-two a b p q r s =
     record {
       scalar = record { below = omega arith; plain = omega arith };
-      back = two-octets (code₂ a b) (omega arith) (omega arith) ∙ pair (omega arith) (omega arith)
+      back = two-octets (code₂ a b) (omega arith) (omega arith) ∙ pair (omega arith) (omega arith);
     }
 
 from-three : (a b d : ℕ) → 0xE0 ≤ a → a ≤ 0xEF → 0x80 ≤ b → b ≤ 0xBF → 0x80 ≤ d → d ≤ 0xBF
@@ -263,7 +264,7 @@ from-three : (a b d : ℕ) → 0xE0 ≤ a → a ≤ 0xEF → 0x80 ≤ b → b �
 from-three a b d p q r s u v low plain =
     record {
       scalar = record { below = omega arith; plain = plain };
-      back = three-octets (code₃ a b d) low (omega arith) ∙ triple (omega arith) (omega arith) (omega arith)
+      back = three-octets (code₃ a b d) low (omega arith) ∙ triple (omega arith) (omega arith) (omega arith);
     }
 
 from-four : (a b d g : ℕ) → 0xF0 ≤ a → a ≤ 0xF4 → 0x80 ≤ b → b ≤ 0xBF → 0x80 ≤ d → d ≤ 0xBF → 0x80 ≤ g → g ≤ 0xBF
@@ -271,7 +272,7 @@ from-four : (a b d g : ℕ) → 0xF0 ≤ a → a ≤ 0xF4 → 0x80 ≤ b → b �
 from-four a b d g p q r s u v w x low high =
     record {
       scalar = record { below = high; plain = omega arith };
-      back = four-octets (code₄ a b d g) low ∙ quadruple (omega arith) (omega arith) (omega arith) (omega arith)
+      back = four-octets (code₄ a b d g) low ∙ quadruple (omega arith) (omega arith) (omega arith) (omega arith);
     }
 
 abbrev All : (Form → Type 0) → List Form → Type 0
@@ -285,20 +286,28 @@ rows-sound =
   where
     row₁ : Sound (form 0x00 (range 0x00 0x7F) [])
     row₁ s (octet {b = a} p q done) = record { scalar = record { below = omega arith; plain = omega arith }; back = one-octet (a - 0) (omega arith) ∙ ap (λ (n : ℕ). n ∷ []) (sub-zero a) }
+
     row₂ : Sound (form 0xC0 (range 0xC2 0xDF) (tail ∷ []))
     row₂ s (octet {b = a} p q (octet {b = b} r u done)) = from-two a b p q r u
+
     row₃ : Sound (form 0xE0 (range 0xE0 0xE0) (range 0xA0 0xBF ∷ tail ∷ []))
     row₃ s (octet {b = a} p q (octet {b = b} r u (octet {b = d} v w done))) = from-three a b d p (omega arith) (omega arith) u v w (omega arith) (omega arith)
+
     row₃₁ : Sound (form 0xE0 (range 0xE1 0xEC) (tail ∷ tail ∷ []))
     row₃₁ s (octet {b = a} p q (octet {b = b} r u (octet {b = d} v w done))) = from-three a b d (omega arith) (omega arith) r u v w (omega arith) (omega arith)
+
     row₃₂ : Sound (form 0xE0 (range 0xED 0xED) (range 0x80 0x9F ∷ tail ∷ []))
     row₃₂ s (octet {b = a} p q (octet {b = b} r u (octet {b = d} v w done))) = from-three a b d (omega arith) (omega arith) r (omega arith) v w (omega arith) (omega arith)
+
     row₃₃ : Sound (form 0xE0 (range 0xEE 0xEF) (tail ∷ tail ∷ []))
     row₃₃ s (octet {b = a} p q (octet {b = b} r u (octet {b = d} v w done))) = from-three a b d (omega arith) q r u v w (omega arith) (omega arith)
+
     row₄ : Sound (form 0xF0 (range 0xF0 0xF0) (range 0x90 0xBF ∷ tail ∷ tail ∷ []))
     row₄ s (octet {b = a} p q (octet {b = b} r u (octet {b = d} v w (octet {b = g} x y done)))) = from-four a b d g p (omega arith) (omega arith) u v w x y (omega arith) (omega arith)
+
     row₄₁ : Sound (form 0xF0 (range 0xF1 0xF3) (tail ∷ tail ∷ tail ∷ []))
     row₄₁ s (octet {b = a} p q (octet {b = b} r u (octet {b = d} v w (octet {b = g} x y done)))) = from-four a b d g (omega arith) (omega arith) r u v w x y (omega arith) (omega arith)
+
     row₄₂ : Sound (form 0xF0 (range 0xF4 0xF4) (range 0x80 0x8F ∷ tail ∷ tail ∷ []))
     row₄₂ s (octet {b = a} p q (octet {b = b} r u (octet {b = d} v w (octet {b = g} x y done)))) = from-four a b d g (omega arith) q r (omega arith) v w x y (omega arith) (omega arith)
 
@@ -388,8 +397,31 @@ encode c s =
 
 -- each scalar value has exactly one byte string
 pub one-string : (c : ℕ) → Scalar c → (s : List ℕ) → (character s ≡ Well c (length s)) ↔ (s ≡ octetsOf c)
-one-string c v s =
-    (λ e. sym (take-length s) ∙ its-octets s e,
-    λ e.
-    let x = encode c v in
-    ap character (e ∙ sym (append-nil (octetsOf c))) ∙ reads-char (x .char) [] ∙ ap₂ Well (x .code) (ap length (sym e)))
+one-string c v s = (
+  λ e. sym (take-length s) ∙ its-octets s e,
+  λ e.
+      let x = encode c v in
+      ap character (e ∙ sym (append-nil (octetsOf c))) ∙ reads-char (x .char) [] ∙ ap₂ Well (x .code) (ap length (sym e)),
+)
+
+-- valid UTF-8 is read character by character
+
+pub record ValidStep (l : List ℕ) : Type 0 where
+  pub code : ℕ
+  pub size : ℕ
+  pub well : character l ≡ Well code size
+  pub left : Utf8Octets (drop size l)
+
+-- what is valid is empty, or begins with a character after which the rest is valid
+pub valid-step : {l : List ℕ} → Utf8Octets l → (l ≡ []) ⊎ ValidStep l
+valid-step none = inl refl
+valid-step (next {s} {l} u v) =
+    inr (record { code = codePoint (u .row) s; size = length s; well = reads-char u l; left = subst Utf8Octets (sym (drop-append-seam s l)) v })
+
+-- and the other way round
+pub step-valid : (l : List ℕ) {c k : ℕ} → character l ≡ Well c k → Utf8Octets (drop k l) → Utf8Octets l
+step-valid l {c} {k} e v =
+    let x = found l e in
+    let u : Utf8Char (x .octets) = record { row = x .row; listed = x .listed; fits = x .fits } in
+    let rest : drop k l ≡ x .left = ap (drop k) (x .parts) ∙ drop-at (x .octets) (x .left) k (sym (x .count)) in
+    subst Utf8Octets (sym (x .parts)) (next u (subst Utf8Octets rest v))
