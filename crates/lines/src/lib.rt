@@ -1,0 +1,38 @@
+// Text for a program's output, put together in a lent buffer so that it is written in blocks. What does not fit is cut off.
+ghost use mathlib.Core.Path.{_≡_};
+ghost use mathlib.Core.List.{[], _∷_};
+ghost use Rattle.lines.specs.Put.{Puts, PutsDecimal};
+
+// Puts the bytes from `at` of the buffer on, and answers the place after them.
+pub fn put_bytes(out: &mut [u8], at: usize, bytes: &[u8]) -> usize
+    ensures { λ r. ⌜ Puts (now (out .entry)) at (now (bytes .entry)) r (now (out .exit)) ⌝ }
+{
+    let mut to = at;
+    let mut i = 0;
+    while i < bytes.len() {
+        if out.len() <= to {
+            return to;
+        }
+        out[to] = bytes[i];
+        to += 1;
+        i += 1;
+    }
+    to
+}
+
+// Puts a byte at `at` of the buffer, and answers the place after it.
+pub fn put_byte(out: &mut [u8], at: usize, byte: u8) -> usize
+    ensures { λ r. ⌜ Puts (now (out .entry)) at (byte ∷ []) r (now (out .exit)) ⌝ }
+{
+    let one = [byte];
+    put_bytes(out, at, &one)
+}
+
+// Puts the decimal digits of n from `at` of the buffer on, and answers the place after them.
+pub fn put_decimal(out: &mut [u8], at: usize, n: u64) -> usize
+    ensures { λ r. ⌜ PutsDecimal (now (out .entry)) at n r (now (out .exit)) ⌝ }
+{
+    let mut text = [0u8; 20];
+    let k = io::decimal(n, &mut text);
+    put_bytes(out, at, &text[..k])
+}
