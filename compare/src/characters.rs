@@ -1,0 +1,88 @@
+//! What crates/characters has to print: see crates/characters/src/main.rt for the cases and the lines.
+
+use std::io::{Read, Write};
+
+/// The class numbers of crates/sise_util/src/classes.rt, from the crate's own tests.
+fn class_of(byte: u8) -> u8 {
+    match byte {
+        b' ' => 0,
+        b'"' => 1,
+        b'\t' => 2,
+        b'\n' | b'\r' => 4,
+        b'\\' => 5,
+        b';' => 7,
+        b'(' => 8,
+        b')' => 9,
+        _ if crate::is_atom_chr(char::from(byte)) => 3,
+        _ if crate::is_atom_string_chr(char::from(byte)) => 10,
+        _ => 6,
+    }
+}
+
+fn bit(yes: bool) -> char {
+    if yes {
+        '1'
+    } else {
+        '0'
+    }
+}
+
+/// The crate takes a `&str`: bytes that are no valid UTF-8 have a byte past 0x7E, which no atom has.
+fn check_atom(bytes: &[u8]) -> bool {
+    std::str::from_utf8(bytes).map_or(false, crate::check_atom)
+}
+
+fn character(bytes: &[u8], place: usize) -> String {
+    for len in 1..=4 {
+        let Some(part) = bytes.get(place..place + len) else {
+            break;
+        };
+        if let Ok(text) = std::str::from_utf8(part) {
+            let code = text.chars().next().map_or(0, u32::from);
+            return format!("{code}/{len}");
+        }
+    }
+    String::from("-")
+}
+
+fn case_bytes(line: &[u8]) -> Vec<u8> {
+    match line.strip_prefix(b"x") {
+        None => line.to_vec(),
+        Some(digits) => digits
+            .chunks_exact(2)
+            .map(|pair| {
+                let text = std::str::from_utf8(pair).expect("hexadecimal digits");
+                u8::from_str_radix(text, 16).expect("hexadecimal digits")
+            })
+            .collect(),
+    }
+}
+
+pub fn run() {
+    let mut out = String::new();
+    for byte in 0..=255u8 {
+        let chr = char::from(byte);
+        let atom = bit(crate::is_atom_chr(chr));
+        let string = bit(crate::is_atom_string_chr(chr));
+        out += &format!("{byte} {} {atom}{string}\n", class_of(byte));
+    }
+    let mut input = Vec::new();
+    std::io::stdin().read_to_end(&mut input).expect("cases on standard input");
+    for line in input.split_inclusive(|&b| b == b'\n') {
+        let Some(line) = line.strip_suffix(b"\n") else {
+            continue;
+        };
+        let bytes = case_bytes(line);
+        out.push(bit(check_atom(&bytes)));
+        out.push(' ');
+        for len in 0..=bytes.len() + 1 {
+            out.push(bit(bytes.get(..len).map_or(false, check_atom)));
+        }
+        for place in 0..=bytes.len() + 1 {
+            out.push(' ');
+            out += &character(&bytes, place);
+        }
+        out.push('\n');
+    }
+    std::io::stdout().write_all(out.as_bytes()).expect("standard output");
+}
