@@ -26,8 +26,11 @@ pub const RIGHT_PAREN: u8 = 9;
 
 pub const PRINTABLE: u8 = 10;
 
+// A class number for each byte.
+pub type ClassTable = [u8; 256];
+
 // The whole table, for a caller that looks up many bytes: a constant array is built anew at each use.
-pub fn classes() -> [u8; 256]
+pub fn classes() -> ClassTable
     ensures { λ r. ⌜ r ≡ classTable ⌝ }
 {
     CLASSES
