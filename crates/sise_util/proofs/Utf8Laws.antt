@@ -189,6 +189,19 @@ pub found : (l : List ℕ) {d k : ℕ} → character l ≡ Well d k → Found fo
 unfolding character
 found l e = found-in forms l e
 
+-- a character has at least one byte, and lies within the bytes that begin with it
+pub size-fits : (l : List ℕ) {c k : ℕ} → character l ≡ Well c k → (1 ≤ k) × (k ≤ length l)
+size-fits l {c} {k} e =
+    let x = found l e in
+    let n : k ≡ length (x .octets) = x .count in
+    (least (x .fits) n, most (length (x .octets)) (length (x .left)) (ap length (x .parts) ∙ length-append (x .octets) (x .left)) n)
+  where
+    least : {rs : List Range} {r : Range} {s : List ℕ} → Fits (r ∷ rs) s → k ≡ length s → 1 ≤ k
+    least (octet p q i) n = omega arith
+
+    most : (a b : ℕ) → length l ≡ a + b → k ≡ a → k ≤ length l
+    most a b m n = omega arith
+
 -- nothing is left where the octets are as many as all
 all-of : (s t l : List ℕ) → l ≡ s ++ t → length l ≡ length s → l ≡ s
 all-of s [] l e h = e ∙ append-nil s
