@@ -1,0 +1,4 @@
+pub mod Steps
+pub mod Induction
+pub mod Placed
+pub mod Calls

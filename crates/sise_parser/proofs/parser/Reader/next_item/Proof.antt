@@ -1,0 +1,55 @@
+-- `sise_parser::Reader::next_item` meets its contract: refusals 11 and 9 first, then what the token gives in the phase.
+-- Assumes nothing.
+use mathlib.Core.Path.{_≡_, sym, ap, _∙_}
+use mathlib.Core.List.{List}
+use Prim.Native.Nat.{ℕ, _≤_, _<_, _^_}
+use native.Mathlib.Omega.{arith}
+use borrow.Author.Needs.{needs}
+use borrow.Author.Tests.{not-true, not-false, leb-true}
+use Rattle.sise_parser.specs.Lexer.{between}
+use Rattle.sise_parser.specs.Reader.{listsFit, tokenAt}
+use Rattle.sise_parser.specs.Meaning.{lexedAs}
+use Rattle.sise_parser.specs.declared.lexer.Lexed.{Lexed}
+use Rattle.sise_parser.specs.declared.parser.Phase.{Phase}
+use Rattle.sise_parser.proofs.Calls.{parsing-lists, is-parsing, next-unsound, next-finishing, next-beginning, next-parsing, next-bad}
+use Rattle.sise_parser.proofs.parser.Reader.next_item.Statement.{statement}
+use Rattle.sise_parser.proofs.parser.Reader.next_item.Tie as tie
+
+pub next-item-spec : {M : Type 1} → statement M
+unfolding tokenAt
+next-item-spec =
+    tie.close
+    (tie.spec
+    (λ c κs. search needs)
+    (λ c κs. search needs)
+    (λ c. c .refused .ensures ∙ next-unsound (c .before .before .before .before .args .text .now) (c .before .before .before .before .args .self) (sym (c .before .before .is-sound .ensures) ∙ not-true _ (c .before .if1 .taken)))  -- returns
+    (λ c. search needs)
+    (λ c κs. search needs)
+    -- returns-2
+    (λ c. c .refused2 .ensures ∙ next-finishing (c .before .before .before .before .before .before .args .text .now) (c .before .before .before .before .before .before .args .self) (sym (c .before .before .before .before .is-sound .ensures) ∙ not-false _ (c .before .before .before .if1 .left)) (c .before .enum-told .given .1))
+    (λ c κs. search needs)
+    (λ c κs. search needs)
+    (λ c. search needs)
+    (λ c κs. search needs)
+    (λ c. search needs)
+    (λ c. search needs)
+    (λ c κs. search needs)
+    -- inner-item-requires
+    (λ c κs.
+    let n = parsing-lists _ (c .before .before .before .before .before .before .before .before .before .before .before .args .self) (sym (c .before .before .before .before .before .before .before .before .before .is-sound .ensures) ∙ not-false _ (c .before .before .before .before .before .before .before .before .if1 .left)) (is-parsing (c .before .before .before .before .before .before .before .before .before .before .before .args .self .phase) (c .before .before .before .before .before .before .before .match .keys2) (c .match3 .keys2)) in
+    (n .0, omega (arith, n .1)))
+    -- returns-3
+    (λ c.
+    c .refused3 .ensures
+    ∙ next-bad (c .before .before .before .before .before .before .before .before .before .before .before .args .text .now) (c .before .before .before .before .before .before .before .before .before .before .before .args .self) (sym (c .before .before .before .before .before .before .before .before .before .is-sound .ensures) ∙ not-false _ (c .before .before .before .before .before .before .before .before .if1 .left)) (c .before .before .before .before .before .before .before .match .keys2)
+    (ap lexedAs (sym (c .before .before .wrong .given .1)) ∙ c .before .before .before .before .get-token .ensures))
+    -- returns-4
+    (λ c.
+    c .first-item .ensures
+    ∙ next-beginning (c .before .before .before .before .before .before .before .before .before .before .before .before .before .args .text .now) (c .before .before .before .before .before .before .before .before .before .before .before .before .before .args .self) (sym (c .before .before .before .before .before .before .before .before .before .before .before .is-sound .ensures) ∙ not-false _ (c .before .before .before .before .before .before .before .before .before .before .if1 .left)) (c .before .enum-told2 .given .1)
+    (ap lexedAs (sym (c .before .before .before .before .token .given .1)) ∙ c .before .before .before .before .before .before .get-token .ensures))
+    -- returns-5
+    (λ c.
+    c .inner-item .ensures
+    ∙ next-parsing (c .before .before .before .before .before .before .before .before .before .before .before .before .args .text .now) (c .before .before .before .before .before .before .before .before .before .before .before .before .args .self) (sym (c .before .before .before .before .before .before .before .before .before .before .is-sound .ensures) ∙ not-false _ (c .before .before .before .before .before .before .before .before .before .if1 .left)) (is-parsing _ (c .before .before .before .before .before .before .before .before .match .keys2) (c .before .match3 .keys2))
+    (ap lexedAs (sym (c .before .before .before .token .given .1)) ∙ c .before .before .before .before .before .get-token .ensures)))

@@ -1,0 +1,5 @@
+pub mod Refusals
+pub mod Lexer
+pub mod Reader
+pub mod Meaning
+pub mod Examples
