@@ -15,10 +15,10 @@ use Rattle.sise_util.proofs.Ranges.{split}
 use Rattle.sise_parser.specs.Refusals.{Refusal, refusal}
 use Rattle.sise_parser.specs.Lexer.{Lexed, found, bad, Token, eof}
 use Rattle.sise_parser.specs.Reader.{reader, listsFit, isSound, refused, Next, next, refusedWith, tokenAt, inBeginning, inParsing, nextIn, nextItem, Ending, ended, notEnded, endsAt, finishIn, finishReading}
-use Rattle.sise_parser.proofs.parser.Phase as phases
-use Rattle.sise_parser.specs.declared.parser.Phase.{Phase}
-use Rattle.sise_parser.specs.declared.parser.Phase.the-variants.{Beginning, Parsing, Finishing}
-use Rattle.sise_parser.specs.declared.parser.Reader.{Reader}
+use Rattle.sise_parser.proofs.reader.Phase as phases
+use Rattle.sise_parser.specs.declared.reader.Phase.{Phase}
+use Rattle.sise_parser.specs.declared.reader.Phase.the-variants.{Beginning, Parsing, Finishing}
+use Rattle.sise_parser.specs.declared.reader.Reader.{Reader}
 
 -- the parts of a sound record
 pub record Sound (n : ℕ) (r : Reader) : Type 0 where

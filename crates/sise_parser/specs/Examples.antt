@@ -9,9 +9,9 @@ use Rattle.sise_util.specs.Utf8.{character, byRows, forms, follow}
 use Rattle.sise_parser.specs.Refusals.{Refusal, refusal}
 use Rattle.sise_parser.specs.Lexer.{wrong, between, comment, plain, string, escape}
 use Rattle.sise_parser.specs.Reader.{Answer, item, refused, Next, freshReader, isSound, tokenAt, inBeginning, inParsing, nextIn, nextItem, Ending, ended, notEnded, endsAt, finishIn, finishReading}
-use Rattle.sise_parser.specs.declared.parser.Reader.{Reader}
-use Rattle.sise_parser.specs.declared.parser.ParsedItem.{ParsedItem}
-use Rattle.sise_parser.specs.declared.parser.ParsedItem.the-variants.{Atom, ListStart, ListEnd}
+use Rattle.sise_parser.specs.declared.reader.Reader.{Reader}
+use Rattle.sise_parser.specs.declared.reader.ParsedItem.{ParsedItem}
+use Rattle.sise_parser.specs.declared.reader.ParsedItem.the-variants.{Atom, ListStart, ListEnd}
 
 -- the record after k calls of next_item from a fresh reader
 unfoldable pub after : List ℕ → ℕ → Reader

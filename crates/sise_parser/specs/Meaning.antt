@@ -8,11 +8,11 @@ use Rattle.sise_util.specs.Classes.{classOf, classNumber}
 use Rattle.sise_parser.specs.Refusals.{refusalOf}
 use Rattle.sise_parser.specs.Lexer as lexer
 use Rattle.sise_parser.specs.Reader as reader
-use Rattle.sise_parser.specs.declared.parser.Answer.{Answer}
-use Rattle.sise_parser.specs.declared.parser.Answer.the-variants.{Item}
-use Rattle.sise_parser.specs.declared.parser.Next.{Next}
-use Rattle.sise_parser.specs.declared.parser.Finished.{Finished}
-use Rattle.sise_parser.specs.declared.parser.Finished.the-variants.{Done}
+use Rattle.sise_parser.specs.declared.reader.Answer.{Answer}
+use Rattle.sise_parser.specs.declared.reader.Answer.the-variants.{Item}
+use Rattle.sise_parser.specs.declared.reader.Next.{Next}
+use Rattle.sise_parser.specs.declared.reader.Finished.{Finished}
+use Rattle.sise_parser.specs.declared.reader.Finished.the-variants.{Done}
 use Rattle.sise_parser.specs.declared.lexer.Token.{Token}
 use Rattle.sise_parser.specs.declared.lexer.Token.the-variants.{Eof, LeftParen, RightParen, Atom}
 use Rattle.sise_parser.specs.declared.lexer.Lexed.{Lexed}

@@ -7,11 +7,11 @@ use lib.Dec.{leb, eqb}
 use lib.ListN.{length, drop, take}
 use Rattle.sise_parser.specs.Refusals.{Refusal, refusal}
 use Rattle.sise_parser.specs.Lexer.{Lexed, found, bad, Token, eof, opening, closing, atom, between}
-use Rattle.sise_parser.specs.declared.parser.Phase.{Phase}
-use Rattle.sise_parser.specs.declared.parser.Phase.the-variants.{Beginning, Parsing, Finishing}
-use Rattle.sise_parser.specs.declared.parser.Reader.{Reader}
-use Rattle.sise_parser.specs.declared.parser.ParsedItem.{ParsedItem}
-use Rattle.sise_parser.specs.declared.parser.ParsedItem.the-variants.{Atom, ListStart, ListEnd}
+use Rattle.sise_parser.specs.declared.reader.Phase.{Phase}
+use Rattle.sise_parser.specs.declared.reader.Phase.the-variants.{Beginning, Parsing, Finishing}
+use Rattle.sise_parser.specs.declared.reader.Reader.{Reader}
+use Rattle.sise_parser.specs.declared.reader.ParsedItem.{ParsedItem}
+use Rattle.sise_parser.specs.declared.reader.ParsedItem.the-variants.{Atom, ListStart, ListEnd}
 
 abbrev pub reader : ℕ → Phase → ℕ → Reader
 reader p f n = record { position = p; phase = f; lists = n }

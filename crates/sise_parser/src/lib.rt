@@ -1,13 +1,13 @@
 // The reader (parser.rs of the crate sise 0.8.0): the items of a SISE text, one a call.
 mod error;
 mod lexer;
-mod parser;
+mod reader;
 
 pub use error::ParseError;
-pub use parser::Answer;
-pub use parser::Finished;
-pub use parser::Next;
-pub use parser::ParsedItem;
-pub use parser::Phase;
-pub use parser::Reader;
-pub use parser::atom_bytes;
+pub use reader::Answer;
+pub use reader::Finished;
+pub use reader::Next;
+pub use reader::ParsedItem;
+pub use reader::Phase;
+pub use reader::Reader;
+pub use reader::atom_bytes;

@@ -9,8 +9,8 @@ use lib.ListN.{length, take, drop}
 use borrow.Author.Needs.{needs}
 use borrow.Author.Tests.{le-leb, lt-leb, ltb-true, ltb-false}
 use Rattle.sise_parser.specs.Reader.{partOf}
-use Rattle.sise_parser.proofs.parser.atom_bytes.Statement.{statement}
-use Rattle.sise_parser.proofs.parser.atom_bytes.Tie as tie
+use Rattle.sise_parser.proofs.reader.atom_bytes.Statement.{statement}
+use Rattle.sise_parser.proofs.reader.atom_bytes.Tie as tie
 
 outside : (text : List ℕ) (p n : ℕ) → length text < p + n → [] ≡ partOf text p n
 unfolding partOf

@@ -19,8 +19,8 @@ use Rattle.sise_parser.specs.declared.lexer.Token.{Token}
 use Rattle.sise_parser.specs.declared.lexer.Token.the-variants.{Eof, LeftParen, RightParen, Atom}
 use Rattle.sise_parser.proofs.lexer.Token as tokens
 use Rattle.sise_parser.proofs.Calls.{finish-unsound, finish-early, finish-token}
-use Rattle.sise_parser.proofs.parser.Reader.finish.Statement.{statement}
-use Rattle.sise_parser.proofs.parser.Reader.finish.Tie as tie
+use Rattle.sise_parser.proofs.reader.Reader.finish.Statement.{statement}
+use Rattle.sise_parser.proofs.reader.Reader.finish.Tie as tie
 
 -- the token is the end, or another
 at-end : {x : Lexed} {t : Token} {s p : ℕ} → x ≡ Found t s p → t ≡ Eof → ended ≡ endsAt (lexedAs x)

@@ -10,10 +10,10 @@ use Rattle.sise_parser.specs.Lexer.{between}
 use Rattle.sise_parser.specs.Reader.{listsFit, tokenAt}
 use Rattle.sise_parser.specs.Meaning.{lexedAs}
 use Rattle.sise_parser.specs.declared.lexer.Lexed.{Lexed}
-use Rattle.sise_parser.specs.declared.parser.Phase.{Phase}
+use Rattle.sise_parser.specs.declared.reader.Phase.{Phase}
 use Rattle.sise_parser.proofs.Calls.{parsing-lists, is-parsing, next-unsound, next-finishing, next-beginning, next-parsing, next-bad}
-use Rattle.sise_parser.proofs.parser.Reader.next_item.Statement.{statement}
-use Rattle.sise_parser.proofs.parser.Reader.next_item.Tie as tie
+use Rattle.sise_parser.proofs.reader.Reader.next_item.Statement.{statement}
+use Rattle.sise_parser.proofs.reader.Reader.next_item.Tie as tie
 
 pub next-item-spec : {M : Type 1} → statement M
 unfolding tokenAt

@@ -8,10 +8,10 @@ use Rattle.sise_parser.specs.Lexer.{found, closing}
 use Rattle.sise_parser.specs.Reader.{Next, next, reader, item, closed, inParsing}
 use Rattle.sise_parser.specs.Meaning.{tokenAs}
 use Rattle.sise_parser.specs.declared.lexer.Token.{Token}
-use Rattle.sise_parser.specs.declared.parser.Phase.the-variants.{Parsing, Finishing}
-use Rattle.sise_parser.specs.declared.parser.ParsedItem.the-variants.{ListEnd}
-use Rattle.sise_parser.proofs.parser.inner_item.Statement.{statement}
-use Rattle.sise_parser.proofs.parser.inner_item.Tie as tie
+use Rattle.sise_parser.specs.declared.reader.Phase.the-variants.{Parsing, Finishing}
+use Rattle.sise_parser.specs.declared.reader.ParsedItem.the-variants.{ListEnd}
+use Rattle.sise_parser.proofs.reader.inner_item.Statement.{statement}
+use Rattle.sise_parser.proofs.reader.inner_item.Tie as tie
 
 told : {t u : Token} (n s p : ℕ) → t ≡ u → inParsing n (found (tokenAs u) s p) ≡ inParsing n (found (tokenAs t) s p)
 told n s p e = ap (λ (v : Token). inParsing n (found (tokenAs v) s p)) (sym e)

@@ -7,8 +7,8 @@ use Rattle.sise_parser.specs.Lexer.{found}
 use Rattle.sise_parser.specs.Reader.{Next, inBeginning}
 use Rattle.sise_parser.specs.Meaning.{tokenAs}
 use Rattle.sise_parser.specs.declared.lexer.Token.{Token}
-use Rattle.sise_parser.proofs.parser.first_item.Statement.{statement}
-use Rattle.sise_parser.proofs.parser.first_item.Tie as tie
+use Rattle.sise_parser.proofs.reader.first_item.Statement.{statement}
+use Rattle.sise_parser.proofs.reader.first_item.Tie as tie
 
 told : {t u : Token} (n s p : ℕ) → t ≡ u → inBeginning n (found (tokenAs u) s p) ≡ inBeginning n (found (tokenAs t) s p)
 told n s p e = ap (λ (v : Token). inBeginning n (found (tokenAs v) s p)) (sym e)

@@ -4,9 +4,9 @@ use mathlib.Core.Path.{_≡_, sym, ap}
 use Prim.Native.Nat.{ℕ}
 use borrow.Author.Needs.{needs}
 use Rattle.sise_parser.specs.Reader.{listsFit}
-use Rattle.sise_parser.specs.declared.parser.Phase.{Phase}
-use Rattle.sise_parser.proofs.parser.lists_fit.Statement.{statement}
-use Rattle.sise_parser.proofs.parser.lists_fit.Tie as tie
+use Rattle.sise_parser.specs.declared.reader.Phase.{Phase}
+use Rattle.sise_parser.proofs.reader.lists_fit.Statement.{statement}
+use Rattle.sise_parser.proofs.reader.lists_fit.Tie as tie
 
 told : {f g : Phase} (n : ℕ) → f ≡ g → listsFit g n ≡ listsFit f n
 told n e = ap (λ (h : Phase). listsFit h n) (sym e)

@@ -8,9 +8,9 @@ use borrow.Author.Needs.{needs}
 use borrow.Author.Tests.{le-leb, lt-leb, ltb-true, ltb-false}
 use lib.Dec.{leb}
 use Rattle.sise_parser.specs.Reader.{listsFit, isSound}
-use Rattle.sise_parser.specs.declared.parser.Reader.{Reader}
-use Rattle.sise_parser.proofs.parser.Reader.is_sound.Statement.{statement}
-use Rattle.sise_parser.proofs.parser.Reader.is_sound.Tie as tie
+use Rattle.sise_parser.specs.declared.reader.Reader.{Reader}
+use Rattle.sise_parser.proofs.reader.Reader.is_sound.Statement.{statement}
+use Rattle.sise_parser.proofs.reader.Reader.is_sound.Tie as tie
 
 past-end : (n : ℕ) (r : Reader) → n < r .position → false ≡ isSound n r
 unfolding isSound
