@@ -68,7 +68,7 @@ fn calls_to_the_end(text: &[u8]) -> usize {
     let mut reader = Model::new(text);
     let mut calls = 0;
     while reader.record().phase != Phase::Finishing && reader.record().position < text.len() {
-        // Its answer is of no use here: it is the place it leaves that counts.
+        // Only the record it leaves counts here.
         let _ = reader.next_item();
         calls += 1;
     }
@@ -164,7 +164,7 @@ fn harmed(random: &mut Random, size: usize, harm: impl Fn(&mut Random, &mut Vec<
     text
 }
 
-/// A good profile with something behind it; three in ten have there what `finish` refuses.
+/// A good profile with something behind it: mostly space or a comment, else what `finish` refuses.
 fn ended(random: &mut Random, size: usize) -> Vec<u8> {
     let mut text = profile(random, size);
     if random.percent(50) {
@@ -172,8 +172,7 @@ fn ended(random: &mut Random, size: usize) -> Vec<u8> {
     }
     if random.percent(15) {
         comment(random, &mut text);
-    }
-    if random.percent(30) {
+    } else if random.percent(30) {
         let wrong: [&[u8]; 10] = [
             b" a",
             b"(",

@@ -23,7 +23,8 @@ pub fn damage(random: &mut Random, text: &mut Vec<u8>) {
             text.splice(from..from, copy);
         }
         5 => text[from..to].fill(0),
-        6 => text[from..to].rotate_left(1),
+        // The two halves change places.
+        6 => text[from..to].rotate_left((to - from) / 2),
         _ => {
             let other = random.below(text.len());
             text.swap(from, other);

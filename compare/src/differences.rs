@@ -15,7 +15,7 @@ impl Differences {
         self.note(|| describe(case, expected, found));
     }
 
-    /// A difference that belongs to no case, or is described already.
+    /// A difference that belongs to no case.
     pub fn note(&mut self, description: impl FnOnce() -> String) {
         self.count += 1;
         self.first.get_or_insert_with(description);
@@ -43,21 +43,19 @@ fn describe(case: &Case, expected: &[u8], found: &[u8]) -> String {
     loop {
         match (expected.next(), found.next()) {
             (None, None) => return out,
-            (Some(expected), Some(found)) if expected == found => put_line(&mut out, ' ', expected),
+            (expected, found) if expected == found => put_line(&mut out, ' ', expected),
             (expected, found) => {
-                expected
-                    .into_iter()
-                    .for_each(|line| put_line(&mut out, '-', line));
-                found
-                    .into_iter()
-                    .for_each(|line| put_line(&mut out, '+', line));
+                put_line(&mut out, '-', expected);
+                put_line(&mut out, '+', found);
             }
         }
     }
 }
 
-fn put_line(out: &mut String, mark: char, line: &[u8]) {
-    // A line that lacks its end is shown as such.
+fn put_line(out: &mut String, mark: char, line: Option<&[u8]>) {
+    let Some(line) = line else {
+        return;
+    };
     let (line, cut) = match line.strip_suffix(b"\n") {
         Some(line) => (line, ""),
         None => (line, " (no line end)"),

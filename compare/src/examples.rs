@@ -23,10 +23,8 @@ const fn items(text: &'static [u8], calls: usize, answers: &'static str) -> Exam
 
 const fn whole(text: &'static [u8], calls: usize, answers: &'static str) -> Example {
     Example {
-        text,
-        calls,
         finish: true,
-        answers,
+        ..items(text, calls, answers)
     }
 }
 

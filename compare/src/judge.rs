@@ -7,7 +7,7 @@ use crate::model::Model;
 use crate::options::Options;
 use crate::original::{Masked, Original};
 use crate::reading::{Case, Reading};
-use crate::script::put_answers;
+use crate::script::{put_answers, put_case, CASE};
 
 #[derive(Default)]
 pub struct Judge {
@@ -15,7 +15,7 @@ pub struct Judge {
     pub calls: usize,
     /// Cases whose text isn't valid UTF-8.
     masked: usize,
-    disagreements: Differences,
+    pub disagreements: Differences,
 }
 
 impl Judge {
@@ -34,6 +34,18 @@ impl Judge {
         let original = masked.unmask(Reading::of(case, Original::new(&masked.text)));
         self.hold(case, &original, &model);
         model
+    }
+
+    /// The script of the cases, and what replay has to print for it.
+    pub fn script_and_answers(&mut self, cases: &[Case]) -> (Vec<u8>, Vec<u8>) {
+        let mut script = Vec::new();
+        let mut answers = Vec::new();
+        for case in cases {
+            put_case(&mut script, case);
+            answers.extend_from_slice(CASE);
+            put_answers(&mut answers, &self.expected(case));
+        }
+        (script, answers)
     }
 
     fn hold(&mut self, case: &Case, original: &Reading, model: &Reading) {

@@ -104,7 +104,8 @@ pub fn gap(random: &mut Random, out: &mut Vec<u8>) {
 /// A comment without the line end that closes it.
 pub fn comment(random: &mut Random, out: &mut Vec<u8>) {
     out.push(b';');
-    for _ in 0..random.below(20) {
+    let longest = if random.percent(3) { 400 } else { 20 };
+    for _ in 0..random.below(longest) {
         let byte = if random.percent(5) {
             b'\t'
         } else {

@@ -5,7 +5,7 @@ use crate::differences::Differences;
 use crate::judge::Judge;
 use crate::options::Options;
 use crate::reading::Case;
-use crate::script::{put_answers, put_case, CASE};
+use crate::script::CASE;
 use std::io::Write;
 use std::iter::Peekable;
 use std::path::{Path, PathBuf};
@@ -25,9 +25,9 @@ pub fn run(words: &[String]) -> Result<bool, String> {
     let mut cases = cases::all(&options).peekable();
     while cases.peek().is_some() {
         let batch = batch(&mut cases);
-        let (script, expected) = script_and_answers(&batch, &mut judge);
+        let (script, expected) = judge.script_and_answers(&batch);
         let output = answers(&replay, &script)?;
-        hold(&batch, &expected, &output, &mut differences);
+        compare(&batch, &expected, &output, &mut differences);
     }
     let (cases, calls) = (judge.cases, judge.calls);
     println!(
@@ -50,17 +50,6 @@ fn batch(cases: &mut Peekable<impl Iterator<Item = Case>>) -> Vec<Case> {
     batch
 }
 
-pub fn script_and_answers(cases: &[Case], judge: &mut Judge) -> (Vec<u8>, Vec<u8>) {
-    let mut script = Vec::new();
-    let mut expected = Vec::new();
-    for case in cases {
-        put_case(&mut script, case);
-        expected.extend_from_slice(CASE);
-        put_answers(&mut expected, &judge.expected(case));
-    }
-    (script, expected)
-}
-
 fn answers(replay: &Path, script: &[u8]) -> Result<Output, String> {
     let not_run = |error| format!("cannot run {}: {error}", replay.display());
     let mut child = Command::new(replay)
@@ -76,7 +65,7 @@ fn answers(replay: &Path, script: &[u8]) -> Result<Output, String> {
     })
 }
 
-fn hold(batch: &[Case], expected: &[u8], output: &Output, differences: &mut Differences) {
+fn compare(batch: &[Case], expected: &[u8], output: &Output, differences: &mut Differences) {
     let before = differences.count;
     if output.stdout != expected {
         let mut found = blocks(&output.stdout).into_iter();

@@ -1,10 +1,10 @@
 //! The mode `sample`: a fixed few hundred short cases, which crates/replay stores with their answers.
+//! A change to the makers of cases changes it; both files are then written again.
 
 use crate::cases::{exhaustive, to_the_end, Maker, KINDS};
 use crate::damage::borders;
 use crate::examples;
 use crate::judge::Judge;
-use crate::reader::script_and_answers;
 use crate::reading::Case;
 use std::io::Write;
 
@@ -12,7 +12,10 @@ const LARGEST_SCRIPT: usize = 60_000;
 
 pub fn run(words: &[String]) -> Result<bool, String> {
     let mut judge = Judge::default();
-    let (script, answers) = script_and_answers(&cases(), &mut judge);
+    let (script, answers) = judge.script_and_answers(&cases());
+    if judge.disagreements.count > 0 {
+        return Err(String::from("model and crate disagree on the sample"));
+    }
     if script.len() >= LARGEST_SCRIPT {
         return Err(format!("the sample's script has {} bytes", script.len()));
     }
