@@ -67,7 +67,9 @@ pub fn run() {
         out += &format!("{byte} {} {atom}{string}\n", class_of(byte));
     }
     let mut input = Vec::new();
-    std::io::stdin().read_to_end(&mut input).expect("cases on standard input");
+    std::io::stdin()
+        .read_to_end(&mut input)
+        .expect("cases on standard input");
     for line in input.split_inclusive(|&b| b == b'\n') {
         let Some(line) = line.strip_suffix(b"\n") else {
             continue;
@@ -84,5 +86,7 @@ pub fn run() {
         }
         out.push('\n');
     }
-    std::io::stdout().write_all(out.as_bytes()).expect("standard output");
+    std::io::stdout()
+        .write_all(out.as_bytes())
+        .expect("standard output");
 }

@@ -1,26 +1,86 @@
 //! The crate sise 0.8.0 beside the proved library.
 //!
 //!     compare/run characters < crates/characters/stdin     what crates/characters has to print, by the crate and by Rust's own UTF-8 decoder
+//!     compare/run reader [WORDS] [--replay PATH]           the program replay (default target/bin/replay) against the crate's Parser
+//!     compare/run model [WORDS]                            document 01's rules, as model.rs has them, against the crate's Parser
+//!     compare/run sample script                            a fixed sample of the reader's cases, for crates/replay/stdin
+//!     compare/run sample answers                           what replay has to print for it, for crates/replay/stdout
+//!
+//! WORDS: --quick makes 40,000 cases rather than 1,000,000; --cases N makes N; --seed S makes other random ones.
+//! The exit status is 1 where something differs, 2 where the mode can't be run.
 //!
 //! The crate's files are included unchanged, in modules of this program, so that a mode can read their private state.
 
 extern crate alloc;
 
+mod cases;
 mod characters;
+mod damage;
+mod differences;
+mod examples;
+mod judge;
+mod model;
+mod options;
+mod original;
+mod profile;
+mod random;
+mod reader;
+mod reading;
+mod sample;
+mod script;
 
 mod util {
     include!(concat!(env!("SISE_SRC"), "/util.rs"));
 }
 
+mod parser {
+    include!(concat!(env!("SISE_SRC"), "/parser.rs"));
+
+    use crate::reading::{Phase, Record};
+
+    impl Parser<'_> {
+        /// The private state as document 01 counts it: `depth` is 0 while one list is open.
+        pub fn record(&self) -> Record {
+            let (phase, lists) = match self.state {
+                State::Beginning => (Phase::Beginning, 0),
+                State::Parsing { depth } => (Phase::Parsing, depth + 1),
+                State::Finishing => (Phase::Finishing, 0),
+            };
+            Record {
+                position: self.lexer.rem_offset,
+                phase,
+                lists,
+            }
+        }
+    }
+}
+
 pub use util::{check_atom, is_atom_chr, is_atom_string_chr};
 
-fn main() {
+use std::process::ExitCode;
+
+fn main() -> ExitCode {
     let words: Vec<String> = std::env::args().skip(1).collect();
-    match words.first().map(String::as_str) {
-        Some("characters") => characters::run(),
-        _ => {
-            eprintln!("compare: the modes are: characters");
-            std::process::exit(2);
+    let mode = words.first().map_or("", String::as_str);
+    let rest = words.get(1..).unwrap_or_default();
+    let done = match mode {
+        "characters" => {
+            characters::run();
+            Ok(true)
+        }
+        "reader" => reader::run(rest),
+        "model" => judge::run(rest),
+        "sample" => sample::run(rest),
+        _ => Err(String::from(
+            "the modes are: characters, reader, model, sample",
+        )),
+    };
+    match done {
+        Ok(true) => ExitCode::SUCCESS,
+        Ok(false) => ExitCode::from(1),
+        Err(message) => {
+            eprintln!("compare: {message}");
+            ExitCode::from(2)
         }
     }
 }

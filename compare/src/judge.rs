@@ -1,0 +1,88 @@
+//! What is expected of a case; on the way, the model is held against the crate.
+
+use crate::cases;
+use crate::differences::Differences;
+use crate::examples;
+use crate::model::Model;
+use crate::options::Options;
+use crate::original::{Masked, Original};
+use crate::reading::{Case, Reading};
+use crate::script::{put_answers, put_case, CASE};
+
+#[derive(Default)]
+pub struct Judge {
+    pub cases: usize,
+    pub calls: usize,
+    /// Cases whose text isn't valid UTF-8.
+    masked: usize,
+    pub disagreements: Differences,
+}
+
+impl Judge {
+    /// The crate's answers where the text is valid UTF-8, else the model's.
+    pub fn expected<'a>(&mut self, case: &'a Case) -> Reading<'a> {
+        self.cases += 1;
+        self.calls += case.calls + usize::from(case.finish);
+        let model = Reading::of(case, Model::new(&case.text));
+        if let Ok(text) = std::str::from_utf8(&case.text) {
+            let original = Reading::of(case, Original::new(text));
+            self.hold(case, &original, &model);
+            return original;
+        }
+        self.masked += 1;
+        let masked = Masked::new(&case.text);
+        let original = masked.unmask(Reading::of(case, Original::new(&masked.text)));
+        self.hold(case, &original, &model);
+        model
+    }
+
+    /// The script of the cases, and what replay has to print for it.
+    pub fn script_and_answers(&mut self, cases: &[Case]) -> (Vec<u8>, Vec<u8>) {
+        let mut script = Vec::new();
+        let mut answers = Vec::new();
+        for case in cases {
+            put_case(&mut script, case);
+            answers.extend_from_slice(CASE);
+            put_answers(&mut answers, &self.expected(case));
+        }
+        (script, answers)
+    }
+
+    fn hold(&mut self, case: &Case, original: &Reading, model: &Reading) {
+        if original != model {
+            self.disagreements
+                .add(case, &lines(original), &lines(model));
+        }
+    }
+
+    /// Prints the count of agreement; answers whether it is whole.
+    pub fn print(&self) -> bool {
+        let valid = self.cases - self.masked;
+        let (masked, count) = (self.masked, self.disagreements.count);
+        println!("model against crate: {valid} texts of valid UTF-8 and {masked} others, {count} disagreements");
+        self.disagreements
+            .print("the first one, the crate's answers expected:")
+    }
+}
+
+pub fn lines(reading: &Reading) -> Vec<u8> {
+    let mut out = Vec::new();
+    put_answers(&mut out, reading);
+    out
+}
+
+/// The mode `model`.
+pub fn run(words: &[String]) -> Result<bool, String> {
+    let options = Options::read(words)?;
+    if options.replay.is_some() {
+        return Err(String::from("the mode model runs no replay"));
+    }
+    let examples_hold = examples::check();
+    let mut judge = Judge::default();
+    for case in cases::all(&options) {
+        judge.expected(&case);
+    }
+    println!("model: {} cases, {} calls", judge.cases, judge.calls);
+    let agree = judge.print();
+    Ok(agree && examples_hold)
+}

@@ -1,0 +1,247 @@
+//! Document 01's rules for the reader ("Refusals" and "parser.rs: the reader"), over bytes.
+//! Written from the document and RFC 3629 alone, so that the crate is a check of it on valid text.
+
+use crate::reading::{Answer, Item, Phase, Reader, Record, Refusal};
+
+pub const FRESH: Record = Record {
+    position: 0,
+    phase: Phase::Beginning,
+    lists: 0,
+};
+
+pub struct Model<'a> {
+    text: &'a [u8],
+    record: Record,
+}
+
+impl<'a> Model<'a> {
+    pub fn new(text: &'a [u8]) -> Self {
+        Self {
+            text,
+            record: FRESH,
+        }
+    }
+}
+
+impl<'a> Reader<'a> for Model<'a> {
+    fn next_item(&mut self) -> Answer<'a> {
+        let (answer, record) = next_item(self.text, self.record);
+        self.record = record;
+        answer
+    }
+
+    fn record(&self) -> Record {
+        self.record
+    }
+
+    fn finish(self) -> Result<(), Refusal> {
+        finish(self.text, self.record)
+    }
+}
+
+/// The answer and the record it leaves.
+pub fn next_item(text: &[u8], record: Record) -> (Answer<'_>, Record) {
+    if !is_sound(text, record) {
+        return (Err(Refusal::bare(11)), record);
+    }
+    if record.phase == Phase::Finishing {
+        return (Err(Refusal::bare(9)), record);
+    }
+    match token(text, record.position) {
+        Err(stop) => {
+            let left = Record {
+                position: stop.position,
+                ..record
+            };
+            (Err(stop.refusal), left)
+        }
+        Ok(token) => take(text, record, token),
+    }
+}
+
+/// `finish` consumes the reader, so there is no record after it.
+pub fn finish(text: &[u8], record: Record) -> Result<(), Refusal> {
+    if !is_sound(text, record) {
+        return Err(Refusal::bare(11));
+    }
+    if record.phase != Phase::Finishing {
+        return Err(Refusal::bare(10));
+    }
+    match token(text, record.position) {
+        Err(stop) => Err(stop.refusal),
+        Ok(Token {
+            kind: Kind::End, ..
+        }) => Ok(()),
+        Ok(token) => Err(Refusal::at(7, token.start)),
+    }
+}
+
+fn is_sound(text: &[u8], record: Record) -> bool {
+    record.position <= text.len()
+        && record.lists <= record.position
+        && (record.lists >= 1) == (record.phase == Phase::Parsing)
+}
+
+/// What a token does to a record that is beginning or parsing.
+fn take(text: &[u8], record: Record, token: Token) -> (Answer<'_>, Record) {
+    let mut left = Record {
+        position: token.end,
+        ..record
+    };
+    let beginning = record.phase == Phase::Beginning;
+    let answer = match token.kind {
+        Kind::End => Err(Refusal::at(5, token.start)),
+        Kind::Close if beginning => Err(Refusal::at(6, token.start)),
+        Kind::Open => {
+            left.phase = Phase::Parsing;
+            left.lists += 1;
+            Ok(Item::ListStart(token.start))
+        }
+        Kind::Close => {
+            left.lists -= 1;
+            if left.lists == 0 {
+                left.phase = Phase::Finishing;
+            }
+            Ok(Item::ListEnd(token.start))
+        }
+        Kind::Atom => {
+            if beginning {
+                left.phase = Phase::Finishing;
+            }
+            Ok(Item::Atom(token.start, &text[token.start..token.end]))
+        }
+    };
+    (answer, left)
+}
+
+enum Kind {
+    End,
+    Open,
+    Close,
+    Atom,
+}
+
+struct Token {
+    kind: Kind,
+    start: usize,
+    end: usize,
+}
+
+/// A refusal by the text, and the position it leaves.
+struct Stop {
+    refusal: Refusal,
+    position: usize,
+}
+
+fn token(text: &[u8], position: usize) -> Result<Token, Stop> {
+    let mut start = position;
+    let (kind, end) = loop {
+        match text.get(start) {
+            None => break (Kind::End, start),
+            Some(b' ' | b'\t' | b'\n' | b'\r') => start += 1,
+            Some(b';') => start = comment_end(text, start + 1)?,
+            Some(b'(') => break (Kind::Open, start + 1),
+            Some(b')') => break (Kind::Close, start + 1),
+            Some(&byte) if byte == b'"' || is_atom_character(byte) => {
+                break (Kind::Atom, atom_end(text, start)?)
+            }
+            Some(_) => return Err(wrong_character(1, text, start)),
+        }
+    };
+    Ok(Token { kind, start, end })
+}
+
+/// The place after the comment's LF or CR, or the text's end.
+fn comment_end(text: &[u8], mut at: usize) -> Result<usize, Stop> {
+    loop {
+        match text.get(at) {
+            None => return Ok(at),
+            Some(b'\n' | b'\r') => return Ok(at + 1),
+            Some(b'\t' | 0x20..=0x7E) => at += 1,
+            Some(_) => return Err(wrong_character(3, text, at)),
+        }
+    }
+}
+
+fn atom_end(text: &[u8], mut at: usize) -> Result<usize, Stop> {
+    loop {
+        match text.get(at) {
+            Some(b'"') => at = string_end(text, at + 1)?,
+            Some(&byte) if is_atom_character(byte) => at += 1,
+            _ => return Ok(at),
+        }
+    }
+}
+
+/// The place after the closing `"` of a string whose opening one stands before `at`.
+fn string_end(text: &[u8], mut at: usize) -> Result<usize, Stop> {
+    loop {
+        let escaped = text.get(at) == Some(&b'\\');
+        if escaped {
+            at += 1;
+        }
+        match text.get(at) {
+            None => return Err(unfinished_string(text)),
+            Some(b'"') if !escaped => return Ok(at + 1),
+            Some(b'"' | b'\\') if escaped => at += 1,
+            Some(&byte) if is_string_character(byte) => at += 1,
+            Some(_) => return Err(wrong_character(2, text, at)),
+        }
+    }
+}
+
+fn unfinished_string(text: &[u8]) -> Stop {
+    Stop {
+        refusal: Refusal::at(4, text.len()),
+        position: text.len(),
+    }
+}
+
+/// Refusal `number` of the character at `place`, or 8 where none stands there.
+fn wrong_character(number: u8, text: &[u8], place: usize) -> Stop {
+    match character(&text[place..]) {
+        Some((code, len)) => Stop {
+            refusal: Refusal {
+                number,
+                place,
+                code,
+            },
+            position: place + len,
+        },
+        None => Stop {
+            refusal: Refusal::at(8, place),
+            position: place + 1,
+        },
+    }
+}
+
+fn is_atom_character(byte: u8) -> bool {
+    byte.is_ascii_alphanumeric() || b"!#$%&*+-./:<=>?@_~".contains(&byte)
+}
+
+fn is_string_character(byte: u8) -> bool {
+    matches!(byte, 0x20..=0x7E) && byte != b'"' && byte != b'\\'
+}
+
+/// The code point and length of the character that the bytes begin with, by the ABNF in section 4 of RFC 3629.
+fn character(bytes: &[u8]) -> Option<(u32, usize)> {
+    let first = *bytes.first()?;
+    // The length, the first byte's bits of the code point, and the second byte's range; later bytes are 80 to BF.
+    let (len, bits, second) = match first {
+        0x00..=0x7F => return Some((u32::from(first), 1)),
+        0xC2..=0xDF => (2, first & 0x1F, 0x80..=0xBF),
+        0xE0 => (3, first & 0x0F, 0xA0..=0xBF),
+        0xE1..=0xEC | 0xEE..=0xEF => (3, first & 0x0F, 0x80..=0xBF),
+        0xED => (3, first & 0x0F, 0x80..=0x9F),
+        0xF0 => (4, first & 0x07, 0x90..=0xBF),
+        0xF1..=0xF3 => (4, first & 0x07, 0x80..=0xBF),
+        0xF4 => (4, first & 0x07, 0x80..=0x8F),
+        _ => return None,
+    };
+    let later = bytes.get(1..len)?;
+    let well_formed = second.contains(&later[0]) && later.iter().all(|b| matches!(b, 0x80..=0xBF));
+    let code = later
+        .iter()
+        .fold(u32::from(bits), |code, b| code << 6 | u32::from(b & 0x3F));
+    well_formed.then_some((code, len))
+}

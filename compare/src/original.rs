@@ -1,0 +1,102 @@
+//! The crate's `Parser` as a reader of cases. A call on which it would panic isn't made: it is 9 or 10, and moves nothing.
+
+use crate::parser::{ParseError, ParsedItem, Parser};
+use crate::reading::{Answer, Item, Phase, Reader, Reading, Record, Refusal};
+
+pub struct Original<'a> {
+    parser: Parser<'a>,
+}
+
+impl<'a> Original<'a> {
+    pub fn new(text: &'a str) -> Self {
+        Self {
+            parser: Parser::new(text),
+        }
+    }
+}
+
+impl<'a> Reader<'a> for Original<'a> {
+    fn next_item(&mut self) -> Answer<'a> {
+        if self.record().phase == Phase::Finishing {
+            return Err(Refusal::bare(9));
+        }
+        self.parser.next_item().map(item).map_err(refusal)
+    }
+
+    fn record(&self) -> Record {
+        self.parser.record()
+    }
+
+    fn finish(self) -> Result<(), Refusal> {
+        if self.record().phase != Phase::Finishing {
+            return Err(Refusal::bare(10));
+        }
+        self.parser.finish().map_err(refusal)
+    }
+}
+
+fn item(found: ParsedItem<'_>) -> Item<'_> {
+    match found {
+        ParsedItem::Atom(atom, pos) => Item::Atom(pos, atom.as_bytes()),
+        ParsedItem::ListStart(pos) => Item::ListStart(pos),
+        ParsedItem::ListEnd(pos) => Item::ListEnd(pos),
+    }
+}
+
+fn refusal(error: ParseError) -> Refusal {
+    let character = |number, place, chr| Refusal {
+        number,
+        place,
+        code: u32::from(chr),
+    };
+    match error {
+        ParseError::IllegalChr { pos, chr } => character(1, pos, chr),
+        ParseError::IllegalChrInString { pos, chr } => character(2, pos, chr),
+        ParseError::IllegalChrInComment { pos, chr } => character(3, pos, chr),
+        ParseError::UnfinishedString { pos } => Refusal::at(4, pos),
+        ParseError::UnexpectedEof { pos } => Refusal::at(5, pos),
+        ParseError::UnexpectedRightParen { pos } => Refusal::at(6, pos),
+        ParseError::ExpectedEof { pos } => Refusal::at(7, pos),
+    }
+}
+
+/// A text that isn't valid UTF-8, in a form the crate takes: each byte at which no character stands is replaced by 0x01,
+/// a character of one byte that is wrong in every state. Where the crate refuses one of these, 8 is due.
+pub struct Masked {
+    pub text: String,
+    /// By place: whether the byte was replaced.
+    replaced: Vec<bool>,
+}
+
+impl Masked {
+    pub fn new(bytes: &[u8]) -> Self {
+        let mut text = String::with_capacity(bytes.len());
+        let mut replaced = vec![false; bytes.len()];
+        let mut rest = bytes;
+        while !rest.is_empty() {
+            let well = std::str::from_utf8(rest).map_or_else(|e| e.valid_up_to(), str::len);
+            text += &String::from_utf8_lossy(&rest[..well]);
+            if well < rest.len() {
+                replaced[text.len()] = true;
+                text.push('\u{1}');
+            }
+            rest = rest.get(well + 1..).unwrap_or_default();
+        }
+        Self { text, replaced }
+    }
+
+    /// What the crate gave on the masked text, as it is due on the text itself.
+    pub fn unmask<'a>(&self, mut reading: Reading<'a>) -> Reading<'a> {
+        let answers = reading
+            .items
+            .iter_mut()
+            .map(|(answer, _)| answer.as_mut().err());
+        let finish = reading.finish.as_mut().map(|answer| answer.as_mut().err());
+        for refusal in answers.chain(finish).flatten() {
+            if matches!(refusal.number, 1..=3) && self.replaced[refusal.place] {
+                *refusal = Refusal::at(8, refusal.place);
+            }
+        }
+        reading
+    }
+}

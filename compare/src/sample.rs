@@ -1,0 +1,42 @@
+//! The mode `sample`: a fixed few hundred short cases, which crates/replay stores with their answers.
+//! A change to the makers of cases changes it; both files are then written again.
+
+use crate::cases::{exhaustive, to_the_end, Maker, KINDS};
+use crate::damage::borders;
+use crate::examples;
+use crate::judge::Judge;
+use crate::reading::Case;
+use std::io::Write;
+
+const LARGEST_SCRIPT: usize = 60_000;
+
+pub fn run(words: &[String]) -> Result<bool, String> {
+    let mut judge = Judge::default();
+    let (script, answers) = judge.script_and_answers(&cases());
+    if judge.disagreements.count > 0 {
+        return Err(String::from("model and crate disagree on the sample"));
+    }
+    if script.len() >= LARGEST_SCRIPT {
+        return Err(format!("the sample's script has {} bytes", script.len()));
+    }
+    let out = match words {
+        [word] if word == "script" => script,
+        [word] if word == "answers" => answers,
+        _ => return Err(String::from("sample wants one word: script or answers")),
+    };
+    let written = std::io::stdout().write_all(&out);
+    written.map_err(|error| format!("standard output: {error}"))?;
+    Ok(true)
+}
+
+/// The examples, every text of up to two symbols, and some of each other kind.
+fn cases() -> Vec<Case> {
+    let mut cases: Vec<Case> = examples::cases().chain(exhaustive(2)).collect();
+    // A prime, so that the steps go through every state and every byte.
+    cases.extend(borders().step_by(149).map(to_the_end));
+    let mut maker = Maker::new(0, 150);
+    for kind in KINDS {
+        cases.extend((0..30).map(|_| maker.case(kind)));
+    }
+    cases
+}
