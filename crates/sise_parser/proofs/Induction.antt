@@ -3,7 +3,8 @@
 use mathlib.Core.Path.{_≡_, refl, subst, sym}
 use mathlib.Core.Bool.{Bool, true, false}
 use mathlib.Core.List.{List, [], _∷_}
-use Prim.Native.Nat.{ℕ, _+_, _-_}
+use Prim.Native.Nat.{ℕ, _+_, _-_, _<_}
+use lib.Dec.{lit<}
 use Rattle.sise_util.specs.Classes.{Class, space, quote, tab, atomChr, lineEnd, backslash, other, semicolon, left, right, printable, classOf}
 use Rattle.sise_parser.specs.Lexer.{Lexed, found, eof, opening, closing, atom, unfinished, wrong, between, comment, plain, string, escape}
 
@@ -28,7 +29,7 @@ pub record Cases (R : List ℕ → ℕ → Lexed → Type 0) (A : List ℕ → �
   pub atEnd : (p : ℕ) → R [] p (found eof p p)
   pub opened : (b : ℕ) (l : List ℕ) (p : ℕ) → isOther (classOf b) ≡ false → R (b ∷ l) p (found opening p (p + 1))
   pub closed : (b : ℕ) (l : List ℕ) (p : ℕ) → isOther (classOf b) ≡ false → R (b ∷ l) p (found closing p (p + 1))
-  pub refused : (n b : ℕ) (l : List ℕ) (p : ℕ) → R (b ∷ l) p (wrong n (b ∷ l) p)
+  pub refused : (n b : ℕ) (l : List ℕ) (p : ℕ) → n < 8 → R (b ∷ l) p (wrong n (b ∷ l) p)
   pub passedInAtom : (b : ℕ) (l : List ℕ) (p s : ℕ) (x : Lexed) → isOther (classOf b) ≡ false → A l (p + 1) s x → A (b ∷ l) p s x
   pub stopped : (l : List ℕ) (p s : ℕ) → A l p s (found (atom (p - s)) s p)
   pub cut : (p s : ℕ) → A [] p s (unfinished p)
@@ -48,12 +49,12 @@ module _ (R : List ℕ → ℕ → Lexed → Type 0) (A : List ℕ → ℕ → �
       go tab e = rw (e, between) (k .passed b l p _ (asc e refl) hb)
       go atomChr e = rw (e, between) (k .atomBegun b l p _ (asc e refl) hp)
       go lineEnd e = rw (e, between) (k .passed b l p _ (asc e refl) hb)
-      go backslash e = rw (e, between) (k .refused 1 b l p)
-      go other e = rw (e, between) (k .refused 1 b l p)
+      go backslash e = rw (e, between) (k .refused 1 b l p (lit< tt))
+      go other e = rw (e, between) (k .refused 1 b l p (lit< tt))
       go semicolon e = rw (e, between) (k .passed b l p _ (asc e refl) hc)
       go left e = rw (e, between) (k .opened b l p (asc e refl))
       go right e = rw (e, between) (k .closed b l p (asc e refl))
-      go printable e = rw (e, between) (k .refused 1 b l p)
+      go printable e = rw (e, between) (k .refused 1 b l p (lit< tt))
 
   comment-step : (b : ℕ) (l : List ℕ) (p : ℕ) → R l (p + 1) (between l (p + 1)) → R l (p + 1) (comment l (p + 1)) → R (b ∷ l) p (comment (b ∷ l) p)
   unfolding comment
@@ -69,7 +70,7 @@ module _ (R : List ℕ → ℕ → Lexed → Type 0) (A : List ℕ → ℕ → �
       go atomChr e = rw (e, comment) (k .passed b l p _ (asc e refl) hc)
       go lineEnd e = rw (e, comment) (k .passed b l p _ (asc e refl) hb)
       go backslash e = rw (e, comment) (k .passed b l p _ (asc e refl) hc)
-      go other e = rw (e, comment) (k .refused 3 b l p)
+      go other e = rw (e, comment) (k .refused 3 b l p (lit< tt))
       go semicolon e = rw (e, comment) (k .passed b l p _ (asc e refl) hc)
       go left e = rw (e, comment) (k .passed b l p _ (asc e refl) hc)
       go right e = rw (e, comment) (k .passed b l p _ (asc e refl) hc)

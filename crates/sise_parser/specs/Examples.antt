@@ -8,22 +8,17 @@ use Rattle.sise_util.specs.Classes.{classOf}
 use Rattle.sise_util.specs.Utf8.{character, byRows, forms, follow}
 use Rattle.sise_parser.specs.Refusals.{Refusal, refusal}
 use Rattle.sise_parser.specs.Lexer.{wrong, between, comment, plain, string, escape}
-use Rattle.sise_parser.specs.Reader.{Answer, item, refused, Next, freshReader, isSound, tokenAt, inBeginning, inParsing, nextIn, nextItem, Ending, ended, notEnded, endsAt, finishIn, finishReading}
+use Rattle.sise_parser.specs.Reader.{Answer, item, refused, Next, freshReader, isSound, tokenAt, inBeginning, inParsing, nextIn, nextItem, afterCalls, Ending, ended, notEnded, endsAt, finishIn, finishReading}
 use Rattle.sise_parser.specs.declared.reader.Reader.{Reader}
 use Rattle.sise_parser.specs.declared.reader.ParsedItem.{ParsedItem}
 use Rattle.sise_parser.specs.declared.reader.ParsedItem.the-variants.{Atom, ListStart, ListEnd}
 
--- the record after k calls of next_item from a fresh reader
-unfoldable pub after : List ℕ → ℕ → Reader
-after text zero = freshReader
-after text (suc k) = nextItem text (after text k) .reader
-
 -- what a call of next_item, or finish, answers after k calls
 unfoldable pub asked : List ℕ → ℕ → Answer
-asked text k = nextItem text (after text k) .answer
+asked text k = nextItem text (afterCalls text k) .answer
 
 unfoldable pub finishAfter : List ℕ → ℕ → Ending
-finishAfter text k = finishReading text (after text k)
+finishAfter text k = finishReading text (afterCalls text k)
 
 -- the refusal of an answer; 0 if it is none
 abbrev pub refusalIn : Answer → Refusal
@@ -61,16 +56,16 @@ pub rows-1-to-10 : rows1to10 ≡
     refusal 9 0 0 ∷
     refusal 10 0 0 ∷
     []
-unfolding rows1to10 asked finishAfter after nextItem nextIn isSound tokenAt inBeginning inParsing finishReading finishIn endsAt between comment plain string escape wrong classOf character byRows forms follow within
+unfolding rows1to10 asked finishAfter afterCalls nextItem nextIn isSound tokenAt inBeginning inParsing finishReading finishIn endsAt between comment plain string escape wrong classOf character byRows forms follow within
 rows-1-to-10 = refl
 
--- a comment that meets the end after the last item is the end; the place of `"\` is 2; a tab may not stand in a string
+-- a comment that meets the end afterCalls the last item is the end; the place of `"\` is 2; a tab may not stand in a string
 pub slips : finishAfter (97 ∷ 59 ∷ 98 ∷ []) 1 ≡ ended
-unfolding asked finishAfter after nextItem nextIn isSound tokenAt inBeginning inParsing finishReading finishIn endsAt between comment plain string escape wrong classOf character byRows forms follow within
+unfolding asked finishAfter afterCalls nextItem nextIn isSound tokenAt inBeginning inParsing finishReading finishIn endsAt between comment plain string escape wrong classOf character byRows forms follow within
 slips = refl
 
 pub escape-at-end : asked (34 ∷ 92 ∷ []) 0 ≡ refused (refusal 4 2 0)
-unfolding asked finishAfter after nextItem nextIn isSound tokenAt inBeginning inParsing finishReading finishIn endsAt between comment plain string escape wrong classOf character byRows forms follow within
+unfolding asked finishAfter afterCalls nextItem nextIn isSound tokenAt inBeginning inParsing finishReading finishIn endsAt between comment plain string escape wrong classOf character byRows forms follow within
 escape-at-end = refl
 
 -- `(z (+1 "a b") ~)`
@@ -91,9 +86,9 @@ pub worked-items : answers workedText 8 freshReader ≡
     item (Atom 14 1) ∷
     item (ListEnd 15) ∷
     []
-unfolding workedText answers asked finishAfter after nextItem nextIn isSound tokenAt inBeginning inParsing finishReading finishIn endsAt between comment plain string escape wrong classOf character byRows forms follow within
+unfolding workedText answers asked finishAfter afterCalls nextItem nextIn isSound tokenAt inBeginning inParsing finishReading finishIn endsAt between comment plain string escape wrong classOf character byRows forms follow within
 worked-items = refl
 
 pub worked-finish : finishAfter workedText 8 ≡ ended
-unfolding workedText asked finishAfter after nextItem nextIn isSound tokenAt inBeginning inParsing finishReading finishIn endsAt between comment plain string escape wrong classOf character byRows forms follow within
+unfolding workedText asked finishAfter afterCalls nextItem nextIn isSound tokenAt inBeginning inParsing finishReading finishIn endsAt between comment plain string escape wrong classOf character byRows forms follow within
 worked-finish = refl

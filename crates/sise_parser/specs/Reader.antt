@@ -1,6 +1,6 @@
 -- What the reader answers (document 01, "parser.rs: the reader" and "Refusals").
 -- Assumes nothing.
-use Prim.Native.Nat.{ℕ, _+_, _-_}
+use Prim.Native.Nat.{ℕ, zero, suc, _+_, _-_}
 use mathlib.Core.Bool.{Bool, true, false, _&&_, cond}
 use mathlib.Core.List.{List, []}
 use lib.Dec.{leb, eqb}
@@ -82,6 +82,11 @@ nextItem text r =
       | true ↦ nextIn (r .phase) text r
       | false ↦ next r (refusedWith 11)
     ]
+
+-- the record after k calls of next_item from a fresh reader, "each with the record that the last one left"
+unfoldable pub afterCalls : List ℕ → ℕ → Reader
+afterCalls text zero = freshReader
+afterCalls text (suc k) = nextItem text (afterCalls text k) .reader
 
 -- accepted, or a refusal: "Reader finish consumes the reader"
 pub data Ending : Type 0 where

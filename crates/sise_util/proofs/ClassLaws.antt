@@ -60,7 +60,7 @@ no-string-chr : (b : ℕ) → 127 ≤ b → isStringChr b ≡ false
 unfolding isStringChr
 no-string-chr b h = rw (no-within 0x20 0x7E b tt h)
 
-no-class : (b : ℕ) → 127 ≤ b → classOf b ≡ other
+pub no-class : (b : ℕ) → 127 ≤ b → classOf b ≡ other
 unfolding classOf
 no-class b h =
     rw (no-eqb 32 b tt h, no-eqb 9 b tt h, no-oneOf (10 ∷ 13 ∷ []) b tt h, no-eqb 59 b tt h, no-eqb 40 b tt h, no-eqb 41 b tt h, no-eqb 34 b tt h, no-eqb 92 b tt h, no-atom-chr b h, no-within 0x20 0x7E b tt h)

@@ -417,6 +417,11 @@ one-string c v s = (
       ap character (e ∙ sym (append-nil (octetsOf c))) ∙ reads-char (x .char) [] ∙ ap₂ Well (x .code) (ap length (sym e)),
 )
 
+-- a byte below 0x80 is a character of its own
+pub ascii : (b : ℕ) (l : List ℕ) → b < 0x80 → character (b ∷ l) ≡ Well b 1
+unfolding character forms follow
+ascii b l h = row-taken (form 0x00 (range 0x00 0x7F) []) _ b l (zero-le, omega arith) ∙ ap (λ (n : ℕ). Well n 1) (sub-zero b)
+
 -- valid UTF-8 is read character by character
 
 pub record ValidStep (l : List ℕ) : Type 0 where

@@ -1,0 +1,100 @@
+-- On valid UTF-8 no character is refused as ill formed, and every position lies on a border between characters.
+-- Assumes nothing.
+use mathlib.Core.Path.{_≡_, refl, sym, ap, _∙_, subst}
+use mathlib.Core.Bool.{Bool, true, false, true≢false}
+use mathlib.Core.Logic.{⊎-elim}
+use mathlib.Core.List.{List, [], _∷_}
+use Prim.Native.Nat.{ℕ, suc, _+_, _-_, _≤_, _<_}
+use native.Mathlib.Omega.{arith}
+use native.Mathlib.Numerals.{add-one}
+use lib.Dec.{ltb, lit<}
+use lib.ListN.{length, drop}
+use lib.Seq.{drop-drop}
+use borrow.Author.Tests.{ltb-true, ltb-false}
+use Rattle.sise_util.specs.Classes.{Class, classOf}
+use Rattle.sise_util.specs.Utf8.{character, Utf8Octets, none}
+use Rattle.sise_util.specs.declared.utf8.Character.the-variants.{Well, Ill}
+use Rattle.sise_util.proofs.Ranges.{split}
+use Rattle.sise_util.proofs.ClassLaws.{no-class}
+use Rattle.sise_util.proofs.Utf8Laws.{ascii, ValidStep, valid-step}
+use Rattle.sise_parser.specs.Refusals.{refusal}
+use Rattle.sise_parser.specs.Lexer.{Lexed, found, bad, wrong, between}
+use Rattle.sise_parser.proofs.Induction.{isOther, Cases, in-between}
+
+-- the text is valid from q on
+abbrev pub Border : List ℕ → ℕ → Type 0
+Border text q = Utf8Octets (drop q text)
+
+abbrev pub Bordered : List ℕ → Lexed → Type 0
+Bordered text (found t s q) = Border text q
+Bordered text (bad e q) = (e .number < 8) × Border text q
+
+-- the bytes from p on are l
+abbrev From : List ℕ → ℕ → List ℕ → Type 0
+From text p l = drop p text ≡ l
+
+-- a byte that is not `other` is below 0x7F
+small : (b : ℕ) → isOther (classOf b) ≡ false → b < 127
+small b h = split (ltb b 127) (λ e. ltb-true b 127 e) (λ e. absurd (true≢false (sym (ap isOther (no-class b (ltb-false b 127 e))) ∙ h)))
+
+nonempty : (b : ℕ) (l : List ℕ) → Utf8Octets (b ∷ l) → ValidStep (b ∷ l)
+nonempty b l v = ⊎-elim (λ e. absurd (none-left (ap length e))) (λ s. s) (valid-step v)
+  where
+    none-left : suc (length l) ≡ 0 → ⊥
+    none-left e = omega arith
+
+-- after a byte below 0x80 the rest is valid
+ascii-next : (b : ℕ) (l : List ℕ) → b < 128 → Utf8Octets (b ∷ l) → Utf8Octets l
+ascii-next b l h v =
+    let s = nonempty b l v in
+    subst (λ (k : ℕ). Utf8Octets (drop k (b ∷ l))) (one (sym (s .well) ∙ ascii b l h)) (s .left)
+  where
+    one : {c k : ℕ} → Well c k ≡ Well b 1 → k ≡ 1
+    one e = cc
+
+-- the bytes after the first
+next-from : (text : List ℕ) (p b : ℕ) (l : List ℕ) → From text p (b ∷ l) → From text (p + 1) l
+next-from text p b l e = sym (drop-drop 1 p text) ∙ ap (drop 1) e
+
+wrong-border : (n b : ℕ) (l : List ℕ) (p : ℕ) (text : List ℕ) → n < 8 → From text p (b ∷ l) → Utf8Octets (b ∷ l) → Bordered text (wrong n (b ∷ l) p)
+unfolding wrong
+wrong-border n b l p text h e v =
+    let s = nonempty b l v in
+    rw (s .well, wrong) (h, subst Utf8Octets (ap (drop (s .size)) (sym e) ∙ drop-drop (s .size) p text) (s .left))
+
+abbrev R : List ℕ → ℕ → Lexed → Type 0
+R l p x = (text : List ℕ) → From text p l → Utf8Octets l → Bordered text x
+
+abbrev A : List ℕ → ℕ → ℕ → Lexed → Type 0
+A l p s x = R l p x
+
+on : (b : ℕ) (l : List ℕ) (p : ℕ) (x : Lexed) → isOther (classOf b) ≡ false → R l (p + 1) x → R (b ∷ l) p x
+on b l p x a h text e v = h text (next-from text p b l e) (ascii-next b l (below (small b a)) v)
+  where
+    below : b < 127 → b < 128
+    below k = omega arith
+
+after-one : (b : ℕ) (l : List ℕ) (p : ℕ) (text : List ℕ) → isOther (classOf b) ≡ false → From text p (b ∷ l) → Utf8Octets (b ∷ l) → Border text (p + 1)
+after-one b l p text a e v = subst Utf8Octets (sym (next-from text p b l e)) (ascii-next b l (below (small b a)) v)
+  where
+    below : b < 127 → b < 128
+    below k = omega arith
+
+cases : Cases R A
+cases =
+    record {
+      passed = on;
+      atomBegun = on;
+      atEnd = λ p text e v. subst Utf8Octets (sym e) v;
+      opened = λ b l p a text e v. after-one b l p text a e v;
+      closed = λ b l p a text e v. after-one b l p text a e v;
+      refused = λ n b l p h text e v. wrong-border n b l p text h e v;
+      passedInAtom = λ b l p s x a h. on b l p x a h;
+      stopped = λ l p s text e v. subst Utf8Octets (sym e) v;
+      cut = λ p s text e v. (lit< tt, subst Utf8Octets (sym e) v);
+      refusedInAtom = λ b l p s text e v. wrong-border 2 b l p text (lit< tt) e v;
+    }
+
+-- the token at or after a border of a valid text
+pub token-border : (text : List ℕ) (p : ℕ) → Border text p → Bordered text (between (drop p text) p)
+token-border text p v = in-between R A cases (drop p text) p text refl v
