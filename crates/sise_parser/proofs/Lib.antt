@@ -5,3 +5,4 @@ pub mod Calls
 pub mod ReaderLaws
 pub mod Utf8Borders
 pub mod Shifted
+pub mod Moved

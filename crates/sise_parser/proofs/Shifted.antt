@@ -128,6 +128,7 @@ module _ (b : ℕ) (l : List ℕ) (k p : ℕ) where
 
 mutual
   unfolding between comment plain string escape
+
   pub between-moved : (l : List ℕ) (k p : ℕ) → between l (k + p) ≡ moved k (between l p)
   between-moved [] k p = refl
   between-moved (b ∷ l) k p = between-step b l k p (one-on (λ (n : ℕ). between l n) k p (between-moved l k (p + 1))) (one-on (λ (n : ℕ). comment l n) k p (comment-moved l k (p + 1))) (one-on (λ (n : ℕ). plain l n (k + p)) k p (plain-moved l k (p + 1) p)) (one-on (λ (n : ℕ). string l n (k + p)) k p (string-moved l k (p + 1) p))
