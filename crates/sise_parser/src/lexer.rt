@@ -119,7 +119,7 @@ fn lex_string(classes: &ClassTable, text: &[u8], from: usize) -> StringEnd
                     return StringEnd::Refused(unfinished_string(at));
                 }
                 match class_at(classes, text, at) {
-                    TAB | LINE_END | OTHER => {
+                    OTHER | LINE_END | TAB => {
                         return StringEnd::Refused(wrong_chr(Place::InString, text, at));
                     }
                     _ => {
