@@ -59,7 +59,7 @@ use Rattle.sise_parser.proofs.parser.Parser.finish as finish
 use Rattle.sise_parser.proofs.parser.Parser.finish.Statement as stated
 use Rattle.sise_parser.proofs.parser.Parser.finish.Code as code
 
--- the struct's type, over the signature's lifetimes
+-- the type of a parser at 'a
 abbrev B : Lfts 1 → RattleType
 B κs = T.the-row (namedLft 1 0 tt κs)
 
@@ -67,12 +67,12 @@ abbrev stayed : Stays (finish.ended .signature .params) (finish.ended .kept)
 stayed = (stay-none B yes, tt)
 
 module _ {M : Type 1} (𝓤 : URA M) (H : Heap 𝓤) (A : Atoms 𝓤) (mem : Memory → SProp 𝓤) (run : Routine → Fun 𝓤) where
-  -- the contract that the proof cites
+  -- what is known of `finish_in`
   abbrev Core : Contract 𝓤
   Core = tripleOf 𝓤 H A core.signature (core.spec 𝓤 H A mem run)
 
 module _ {M : Type 1} (𝓤 : URA M) (H : Heap 𝓤) (A : Atoms 𝓤) (W : Given 𝓤 H A) (mem : Memory → SProp 𝓤) (run : Routine → Fun 𝓤) (κ : Lft) (q : Share) (d : Parser) where
-  -- the struct's type and laws, and d's fields' values
+  -- a parser as a declared struct, its laws, and the fields of d
   abbrev D : Declared
   D = T.the-type (namedLft 1 0 tt (κ, tt))
 
@@ -85,7 +85,7 @@ module _ {M : Type 1} (𝓤 : URA M) (H : Heap 𝓤) (A : Atoms 𝓤) (W : Given
   abbrev mach : Val
   mach = LL.val D L d
 
-  -- the machine values of text and of the record
+  -- the text and the record as the machine has them
   abbrev v : Val
   v = sliceVal (d .text .ptr) (length (d .text .now))
 
@@ -101,7 +101,7 @@ module _ {M : Type 1} (𝓤 : URA M) (H : Heap 𝓤) (A : Atoms 𝓤) (W : Given
   abbrev Own : Fml
   Own = B (κ, tt) .own d (mach ∷ [])
 
-  -- what the callee is passed
+  -- the call's arguments: the two fields, in their order
   abbrev passed : Vals core.signature (κ, tt)
   passed = (v ∷ [], (vr ∷ [], tt))
 
@@ -111,16 +111,16 @@ module _ {M : Type 1} (𝓤 : URA M) (H : Heap 𝓤) (A : Atoms 𝓤) (W : Given
   asked : ent 𝓤 (onEntry 𝓤 H A core.signature (κ, tt) (q, tt) vd passed) (Core 𝓤 H A mem run .pre to)
   asked = qed W ((‵ (flft κ q) ⊛ ‵ ftrue) ∷ ‵ (owns (ShrSlice (named 0) κ u8 ∷ R.the-row ∷ []) vd passed) ∷ []) ∵ join ! $ frame ! $ done !
 
-  -- what the struct owns gives what the callee asks, and is kept
+  -- of the two copies, one is opened for the call, and one is left
   apart : ent 𝓤 (onEntry 𝓤 H A finish.signature (κ, tt) (q, tt) (d, tt) (mach ∷ [], tt)) (sep 𝓤 (Core 𝓤 H A mem run .pre to) (sem 𝓤 H A Own))
   apart =
       qed W ((‵ (flft κ q) ⊛ ‵ ftrue) ∷ ‵ (owns (B (κ, tt) ∷ []) (d, tt) (mach ∷ [], tt)) ∷ []) ∵
       move ! (1 ∷ []) $ fsplit ! $ move ! (1 ∷ []) $ drop ! $ use1 W (‵ Own ⊛ ‵ Own) (LL.copy D (T′.the-copy (namedLft 1 0 tt (κ, tt))) 𝓤 H A W .twice d (mach ∷ [])) $ split ! $
       use1 W (given (mach ∷ [] ≡ mach ∷ []) (‵ (all-own (D .parts) L vd))) (own-open 𝓤 H A W D L vd mach) $ learn ! (λ _.
-      -- [what the fields own; what the struct owns; the token]
+      -- [the opened copy; the copy kept; the lifetime's token]
       move ! (2 ∷ 0 ∷ []) $ use2 W (raw (Core 𝓤 H A mem run .pre to)) asked $ frame ! $ done !)
 
-  -- of the callee's `ensured`, the clause alone: it has no `&mut`, so what is said of last values is dropped
+  -- what `finish_in` ensures is this one equation, since it has no `&mut` of which more would be said
   said : (r : Finished) → ent 𝓤 (ensured 𝓤 H A core.ended (core.clauses 𝓤 H A mem run) (κ, tt) vd tt r) (fact 𝓤 (finishedAs r ≡ found))
   said r = exE 𝓤 _ (λ ws. snd∗ 𝓤 (sem 𝓤 H A (lasts core.ended (κ, tt) vd ws)) (fact 𝓤 (finishedAs r ≡ found)))
 
@@ -141,7 +141,7 @@ module _ {M : Type 1} (𝓤 : URA M) (H : Heap 𝓤) (A : Atoms 𝓤) (W : Given
         calls-at ! fm (Core 𝓤 H A mem run) known to (and-then ! (load ! (from ! (stop !)) (look ! 4 refl)) (and-then ! (load ! (from ! (stop !)) (look ! 2 refl)) (no-more !))) (λ u.
         use1 W (later (some (λ (r : Finished). ((‵ (flft κ q) ⊛ ‵ ftrue) ⊛ ‵ (I.the-row .own r (u ∷ []))) ⊛ raw (ensured 𝓤 H A core.ended (core.clauses 𝓤 H A mem run) (κ, tt) vd tt r)))) (id⊢ 𝓤 _) $ await ! tt $ pick ! (λ r.
         split ! $ move ! (1 ∷ []) $ use1 W (raw (fact 𝓤 (finishedAs r ≡ found))) (said r) $ heard ! (finishedAs r ≡ found) (λ e. split ! $ move ! (1 ∷ []) $
-        -- [the result; the token; what the struct owns; _3; …; _2; …; _1; …; room for _0; …]
+        -- [the answer's facts; the token; the copy kept; _3; …; _2; …; _1; …; _0, still empty; …]
         peeks ! I.the-row (Is I.the-row) (shows 𝓤 H A I.the-row) r (u ∷ []) (λ is.
         land ! (from ! (stop !)) (init ! 9 refl (EL.lawful I.the-type I′.the-laws 𝓤 H A W tt .typed r _ is .0)) $
         returns ! (look ! 9 refl) $ forget ! 3 refl $ forget ! 5 refl $ forget ! 7 refl $ forget ! 9 refl $

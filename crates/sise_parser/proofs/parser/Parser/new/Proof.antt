@@ -66,7 +66,7 @@ module _ {M : Type 1} (𝓤 : URA M) (H : Heap 𝓤) (A : Atoms 𝓤) (W : Given
   abbrev α : NamedLft
   α = namedLft 1 0 tt (κ, tt)
 
-  -- the slice's machine value
+  -- the text as the machine has it
   abbrev v : Val
   v = sliceVal (s .ptr) (length (s .now))
 

@@ -66,7 +66,7 @@ use Rattle.sise_parser.proofs.parser.Parser.next_item as next-item
 use Rattle.sise_parser.proofs.parser.Parser.next_item.Statement as stated
 use Rattle.sise_parser.proofs.parser.Parser.next_item.Code as code
 
--- the struct's type, over the signature's lifetimes
+-- the type of a parser at 'a
 abbrev B : Lfts 1 → RattleType
 B κs = T.the-row (namedLft 1 0 tt κs)
 
@@ -74,12 +74,12 @@ abbrev stayed : Stays (next-item.ended .signature .params) (next-item.ended .kep
 stayed = (stay-none B yes, tt)
 
 module _ {M : Type 1} (𝓤 : URA M) (H : Heap 𝓤) (A : Atoms 𝓤) (mem : Memory → SProp 𝓤) (run : Routine → Fun 𝓤) where
-  -- the contract that the proof cites
+  -- what is known of `next_item_in`
   abbrev Core : Contract 𝓤
   Core = tripleOf 𝓤 H A core.signature (core.spec 𝓤 H A mem run)
 
 module _ {M : Type 1} (𝓤 : URA M) (H : Heap 𝓤) (A : Atoms 𝓤) (W : Given 𝓤 H A) (mem : Memory → SProp 𝓤) (run : Routine → Fun 𝓤) (κ : Lft) (q : Share) (d : Parser) where
-  -- the struct's type and laws, and d's fields' values
+  -- a parser as a declared struct, its laws, and the fields of d
   abbrev D : Declared
   D = T.the-type (namedLft 1 0 tt (κ, tt))
 
@@ -92,7 +92,7 @@ module _ {M : Type 1} (𝓤 : URA M) (H : Heap 𝓤) (A : Atoms 𝓤) (W : Given
   abbrev mach : Val
   mach = LL.val D L d
 
-  -- the machine values of text and of the record
+  -- the text and the record as the machine has them
   abbrev v : Val
   v = sliceVal (d .text .ptr) (length (d .text .now))
 
@@ -102,7 +102,7 @@ module _ {M : Type 1} (𝓤 : URA M) (H : Heap 𝓤) (A : Atoms 𝓤) (W : Given
   abbrev found : spec.Next
   found = spec.nextItem (now (d .text)) (d .reader)
 
-  -- what is returned where the callee returns r
+  -- the parser handed back, and the whole result, if the call returns r
   abbrev onward : Next → Parser
   onward r = record { text = d .text; reader = r .reader }
 
@@ -115,11 +115,11 @@ module _ {M : Type 1} (𝓤 : URA M) (H : Heap 𝓤) (A : Atoms 𝓤) (W : Given
   abbrev L₀ : LL.Laws D₀
   L₀ = O′.the-laws (namedLft 1 0 tt (κ, tt))
 
-  -- the struct's type as a local of a body has it
+  -- in a local, MIR leaves the name of the lifetime out
   abbrev αᵉ : NamedLft
   αᵉ = record { mir = erased; lft = κ }
 
-  -- that r's record and item are values of their types, where r is one of its own
+  -- r's two fields are values of their types, as r is
   abbrev Fine : Next → Type 0
   Fine r = Is R.the-row (r .reader) (LL.vals R.the-type R′.the-laws (r .reader)) × Is I.the-row (r .answer) (EL.vals I.the-type I′.the-laws (r .answer))
 
@@ -132,7 +132,7 @@ module _ {M : Type 1} (𝓤 : URA M) (H : Heap 𝓤) (A : Atoms 𝓤) (W : Given
   abbrev Own : Fml
   Own = B (κ, tt) .own d (mach ∷ [])
 
-  -- what the callee is passed
+  -- the call's arguments: the two fields, in their order
   abbrev passed : Vals core.signature (κ, tt)
   passed = (v ∷ [], (vr ∷ [], tt))
 
@@ -142,16 +142,16 @@ module _ {M : Type 1} (𝓤 : URA M) (H : Heap 𝓤) (A : Atoms 𝓤) (W : Given
   asked : ent 𝓤 (onEntry 𝓤 H A core.signature (κ, tt) (q, tt) vd passed) (Core 𝓤 H A mem run .pre to)
   asked = qed W ((‵ (flft κ q) ⊛ ‵ ftrue) ∷ ‵ (owns (ShrSlice (named 0) κ u8 ∷ R.the-row ∷ []) vd passed) ∷ []) ∵ join ! $ frame ! $ done !
 
-  -- what the struct owns gives what the callee asks, and is kept
+  -- of the two copies, one is opened for the call, and one is left
   apart : ent 𝓤 (onEntry 𝓤 H A next-item.signature (κ, tt) (q, tt) (d, tt) (mach ∷ [], tt)) (sep 𝓤 (Core 𝓤 H A mem run .pre to) (sem 𝓤 H A Own))
   apart =
       qed W ((‵ (flft κ q) ⊛ ‵ ftrue) ∷ ‵ (owns (B (κ, tt) ∷ []) (d, tt) (mach ∷ [], tt)) ∷ []) ∵
       move ! (1 ∷ []) $ fsplit ! $ move ! (1 ∷ []) $ drop ! $ use1 W (‵ Own ⊛ ‵ Own) (LL.copy D (T′.the-copy (namedLft 1 0 tt (κ, tt))) 𝓤 H A W .twice d (mach ∷ [])) $ split ! $
       use1 W (given (mach ∷ [] ≡ mach ∷ []) (‵ (all-own (D .parts) L vd))) (own-open 𝓤 H A W D L vd mach) $ learn ! (λ _.
-      -- [what the fields own; what the struct owns; the token]
+      -- [the opened copy; the copy kept; the lifetime's token]
       move ! (2 ∷ 0 ∷ []) $ use2 W (raw (Core 𝓤 H A mem run .pre to)) asked $ frame ! $ done !)
 
-  -- of the callee's `ensured`, the clause alone: it has no `&mut`, so what is said of last values is dropped
+  -- what `next_item_in` ensures is this one equation, since it has no `&mut` of which more would be said
   said : (r : Next) → ent 𝓤 (ensured 𝓤 H A core.ended (core.clauses 𝓤 H A mem run) (κ, tt) vd tt r) (fact 𝓤 (nextAs r ≡ found))
   said r = exE 𝓤 _ (λ ws. snd∗ 𝓤 (sem 𝓤 H A (lasts core.ended (κ, tt) vd ws)) (fact 𝓤 (nextAs r ≡ found)))
 
@@ -160,10 +160,10 @@ module _ {M : Type 1} (𝓤 : URA M) (H : Heap 𝓤) (A : Atoms 𝓤) (W : Given
       qed W ((‵ (flft κ q) ⊛ ‵ ftrue) ∷ ‵ Own ∷ []) ∵
       suffices ! _ (ends-at 𝓤 H A next-item.ended stayed (next-item.clauses 𝓤 H A mem run) W (((κ, tt), (q, tt), tt, (d, tt), (mach ∷ [], tt)), tt) (LL.val D₀ L₀ (result r)) (result r) (tt, tt) (tt, tt)) $ says ! (ap (parsed (d .text)) e) $
       frame ! $ use1 W (‵ Own ⊛ ‵ Own) (LL.copy D (T′.the-copy (namedLft 1 0 tt (κ, tt))) 𝓤 H A W .twice d (mach ∷ [])) $ split ! $ nothing ! $ move ! (1 ∷ 0 ∷ []) $ fjoin ! $ frame ! $
-      -- [what the struct owns]: the next record's facts take the place of the record's
+      -- [a copy]: the new record's facts are put in place of the old one's
       owned ! R.the-row (Is R.the-row) (LL.makes R.the-type R′.the-plain 𝓤 H A) (r .reader) (LL.vals R.the-type R′.the-laws (r .reader)) (ok .0) $ move ! (1 ∷ 0 ∷ []) $
       use2 W (‵ (B (κ, tt) .own (onward r) (LL.vals D L (onward r)))) (own-put 𝓤 H A W D L 1 vd (r .reader) mach) $
-      -- [what the parser owns]: with the item's facts it is what the result owns
+      -- [what the new parser owns]: with the answer's facts it is what the result owns
       nothing ! $ owned ! I.the-row (Is I.the-row) (EL.makes I.the-type I′.the-plain 𝓤 H A) (r .answer) (EL.vals I.the-type I′.the-laws (r .answer)) (ok .1) $ fjoin ! $ move ! (1 ∷ 0 ∷ []) $ fjoin ! $ by ! (own-shut 𝓤 H A W D₀ L₀ (onward r, (r .answer, tt)))
 
   module _ (C : Calls 𝓤 H) (Λ : Loops 𝓤 H) (fm : FmC 𝓤 H (W .laws) C) (known : Triple 𝓤 (C #next-item-in) (Core 𝓤 H A mem run)) where
@@ -171,16 +171,16 @@ module _ {M : Type 1} (𝓤 : URA M) (H : Heap 𝓤) (A : Atoms 𝓤) (W : Given
     walk is₀ =
         qed W (raw (onEntry 𝓤 H A next-item.signature (κ, tt) (q, tt) (d, tt) (mach ∷ [], tt)) ∷ []) ∵ enter ! C Λ code.function (mach ∷ []) _ $
         alloc1 ! (λ l₀. alloc1 ! (λ l₁. alloc1 ! (λ l₂. alloc1 ! (λ l₃. alloc1 ! (λ l₄. alloc1 ! (λ l₅. alloc1 ! (λ l₆. alloc0 ! $ params1 ! $ pass1 ! (init ! 10 refl (LL.lawful D L 𝓤 H A W .typed d _ is₀ .0)) $ pass0 ! $
-        -- [_6; …; _5; …; _4; …; _3; …; _2; …; _1; …; _0; …; what stands at entry]
+        -- [_6; …; _5; …; _4; …; _3; …; _2; …; _1; …; _0; …; what was passed]
         assigns ! (of-opd ! (load ! (from ! (fld ! refl (stop !))) (look-in ! 10 (sub ! 0 refl (whole !))))) (from ! (stop !)) (init ! 6 refl (tt, LL.lawful D L 𝓤 H A W .typed d _ is₀ .0 .1 .0)) $
         assigns ! (of-opd ! (load ! (from ! (fld ! refl (stop !))) (look-in ! 10 (sub ! 1 refl (whole !))))) (from ! (stop !)) (init ! 4 refl (LL.lawful R.the-type R′.the-laws 𝓤 H A W .typed (d .reader) (vr ∷ []) (LL.owed D L d _ is₀ .1 .0) .0)) $
         move ! (14 ∷ []) $ use1 W (raw (Core 𝓤 H A mem run .pre to) ⊛ ‵ Own) apart $ split ! $
         calls-at ! fm (Core 𝓤 H A mem run) known to (and-then ! (load ! (from ! (stop !)) (look ! 8 refl)) (and-then ! (load ! (from ! (stop !)) (look ! 6 refl)) (no-more !))) (λ u.
         use1 W (later (some (λ (r : Next). ((‵ (flft κ q) ⊛ ‵ ftrue) ⊛ ‵ (N.the-row .own r (u ∷ []))) ⊛ raw (ensured 𝓤 H A core.ended (core.clauses 𝓤 H A mem run) (κ, tt) vd tt r)))) (id⊢ 𝓤 _) $ await ! tt $ pick ! (λ r.
         split ! $ move ! (1 ∷ []) $ use1 W (raw (fact 𝓤 (nextAs r ≡ found))) (said r) $ heard ! (nextAs r ≡ found) (λ e. split ! $ move ! (1 ∷ []) $
-        -- [what the callee's result owns; the token; what the struct owns; _6; …]: it owns only facts, and is let go
+        -- [what r owns; the token; the copy kept; _6; …]: the first is only facts, and need not be kept
         facts ! N.the-row (Is N.the-row) (shows 𝓤 H A N.the-row) r (u ∷ []) (λ is.
-        -- [the token; what the struct owns; _6; …; _5; …; _4; …; _3; …; room for _2; …; _1; …; room for _0; …]
+        -- [the token; the copy kept; _6; …; _5; …; _4; …; _3; …; _2, still empty; …; _1; …; _0, still empty; …]
         land ! (from ! (stop !)) (init ! 10 refl (LL.lawful N.the-type N′.the-laws 𝓤 H A W .typed r _ is .0)) $ rewrite ! 10 (λ (x : Val). ‵ (fat fullShare N′.mir l₂ 0 x)) (ap only (LL.tells N.the-type N′.the-laws r _ is)) refl $
         assigns ! (of-opd ! (load ! (from ! (fld ! refl (stop !))) (look-in ! 12 (sub ! 0 refl (whole !))))) (from ! (stop !)) (init ! 4 refl (tt, LL.lawful D L 𝓤 H A W .typed d _ is₀ .0 .1 .0)) $
         assigns ! (agg ! (and-then ! (load ! (from ! (stop !)) (look ! 4 refl)) (and-then ! (load ! (from ! (fld ! refl (stop !))) (look-in ! 10 (sub ! 0 refl (whole !)))) (no-more !)))) (from ! (stop !))
