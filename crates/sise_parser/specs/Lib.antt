@@ -2,4 +2,5 @@ pub mod Refusals
 pub mod Lexer
 pub mod Reader
 pub mod Meaning
+pub mod Parser
 pub mod Examples

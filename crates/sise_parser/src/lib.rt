@@ -1,9 +1,12 @@
 // The reader (parser.rs of the crate sise 0.8.0): the items of a SISE text, one a call.
 mod error;
 mod lexer;
+mod parser;
 mod reader;
 
 pub use error::ParseError;
+pub use parser::Parsed;
+pub use parser::Parser;
 pub use reader::Answer;
 pub use reader::Finished;
 pub use reader::Next;
