@@ -6,3 +6,4 @@ pub mod ReaderLaws
 pub mod Utf8Borders
 pub mod Shifted
 pub mod Moved
+pub mod Lossless
