@@ -1,4 +1,5 @@
 pub mod Steps
+pub mod ByteSteps
 pub mod Induction
 pub mod Placed
 pub mod Calls

@@ -1,18 +1,16 @@
-// Tokens (parser.rs, `Lexer`). The classes of bytes are handed down: a table is built anew wherever it is used as a constant.
+// Tokens (parser.rs, `Lexer`). The table of classes is built anew at each use, so it serves where a run of bytes is long, in strings and comments; a
+// token's first byte and an atom's bytes are told by cases and by a mask.
 use crate::error::ParseError;
 use sise_util::Character;
 use sise_util::character_at;
-use sise_util::classes::ATOM;
 use sise_util::classes::BACKSLASH;
 use sise_util::classes::ClassTable;
-use sise_util::classes::LEFT_PAREN;
 use sise_util::classes::LINE_END;
 use sise_util::classes::OTHER;
 use sise_util::classes::QUOTE;
-use sise_util::classes::RIGHT_PAREN;
-use sise_util::classes::SEMICOLON;
-use sise_util::classes::SPACE;
 use sise_util::classes::TAB;
+use sise_util::classes::classes;
+use sise_util::is_atom_byte;
 ghost use mathlib.Core.Path.{_≡_};
 ghost use Prim.Native.Nat.{_≤_, _<_};
 ghost use lib.ListN.{length, drop};
@@ -100,16 +98,17 @@ fn unfinished_string(at: usize) -> Wrong
 }
 
 // The rest of a string from `from` on, which is after its opening quote.
-fn lex_string(classes: &ClassTable, text: &[u8], from: usize) -> StringEnd
-    requires { ⌜ (now classes ≡ classTable) × (from ≤ length (now text)) ⌝ }
+fn lex_string(text: &[u8], from: usize) -> StringEnd
+    requires { ⌜ from ≤ length (now text) ⌝ }
     ensures { λ r. ⌜ Ends (now (text .entry)) from r ⌝ }
 {
+    let table = classes();
     let mut at = from;
     loop {
         if text.len() <= at {
             return StringEnd::Refused(unfinished_string(at));
         }
-        match class_at(classes, text, at) {
+        match class_at(&table, text, at) {
             QUOTE => {
                 return StringEnd::Closed(at + 1);
             }
@@ -118,7 +117,7 @@ fn lex_string(classes: &ClassTable, text: &[u8], from: usize) -> StringEnd
                 if text.len() <= at {
                     return StringEnd::Refused(unfinished_string(at));
                 }
-                match class_at(classes, text, at) {
+                match class_at(&table, text, at) {
                     OTHER | LINE_END | TAB => {
                         return StringEnd::Refused(wrong_chr(Place::InString, text, at));
                     }
@@ -138,8 +137,8 @@ fn lex_string(classes: &ClassTable, text: &[u8], from: usize) -> StringEnd
 }
 
 // The atom that begins at `start`: it runs to the end of the text or to a byte outside strings that is no atom character and no quote.
-fn lex_atom(classes: &ClassTable, text: &[u8], start: usize) -> Lexed
-    requires { ⌜ (now classes ≡ classTable) × (start ≤ length (now text)) ⌝ }
+fn lex_atom(text: &[u8], start: usize) -> Lexed
+    requires { ⌜ start ≤ length (now text) ⌝ }
     ensures { λ r. ⌜ lexedAs r ≡ plain (drop start (now (text .entry))) start start ⌝ }
 {
     let mut at = start;
@@ -147,28 +146,26 @@ fn lex_atom(classes: &ClassTable, text: &[u8], start: usize) -> Lexed
         if text.len() <= at {
             return Lexed::Found(Token::Atom(at - start), start, at);
         }
-        match class_at(classes, text, at) {
-            ATOM => {
-                at += 1;
-            }
-            QUOTE => match lex_string(classes, text, at + 1) {
+        let byte = text[at];
+        if is_atom_byte(byte) {
+            at += 1;
+        } else if byte == b'"' {
+            match lex_string(text, at + 1) {
                 StringEnd::Closed(end) => {
                     at = end;
                 }
                 StringEnd::Refused(wrong) => {
                     return Lexed::Refused(wrong);
                 }
-            },
-            _ => {
-                return Lexed::Found(Token::Atom(at - start), start, at);
             }
+        } else {
+            return Lexed::Found(Token::Atom(at - start), start, at);
         }
     }
 }
 
-// The token at or after `from`: blanks and comments are skipped.
-pub(crate) fn get_token(classes: &ClassTable, text: &[u8], from: usize) -> Lexed
-    requires { ⌜ now classes ≡ classTable ⌝ }
+// The token at or after `from`: blanks and comments are skipped. The arms of blanks are two, since Rattle makes a range of neighbours.
+pub(crate) fn get_token(text: &[u8], from: usize) -> Lexed
     ensures { λ r. ⌜ lexedAs r ≡ between (drop from (now (text .entry))) from ⌝ }
 {
     let mut at = from;
@@ -176,17 +173,28 @@ pub(crate) fn get_token(classes: &ClassTable, text: &[u8], from: usize) -> Lexed
         if text.len() <= at {
             break 'token Lexed::Found(Token::Eof, at, at);
         }
-        match class_at(classes, text, at) {
-            SPACE | TAB | LINE_END => {
+        let byte = text[at];
+        match byte {
+            b' ' | b'\n' => {
                 at += 1;
             }
-            SEMICOLON => {
+            b'\t' | b'\r' => {
+                at += 1;
+            }
+            b'(' => {
+                break 'token Lexed::Found(Token::LeftParen, at, at + 1);
+            }
+            b')' => {
+                break 'token Lexed::Found(Token::RightParen, at, at + 1);
+            }
+            b';' => {
+                let table = classes();
                 at += 1;
                 'comment: loop {
                     if text.len() <= at {
                         break 'token Lexed::Found(Token::Eof, at, at);
                     }
-                    match class_at(classes, text, at) {
+                    match class_at(&table, text, at) {
                         LINE_END => {
                             at += 1;
                             break 'comment;
@@ -200,16 +208,10 @@ pub(crate) fn get_token(classes: &ClassTable, text: &[u8], from: usize) -> Lexed
                     }
                 }
             }
-            LEFT_PAREN => {
-                break 'token Lexed::Found(Token::LeftParen, at, at + 1);
-            }
-            RIGHT_PAREN => {
-                break 'token Lexed::Found(Token::RightParen, at, at + 1);
-            }
-            QUOTE | ATOM => {
-                break 'token lex_atom(classes, text, at);
-            }
             _ => {
+                if is_atom_byte(byte) || byte == b'"' {
+                    break 'token lex_atom(text, at);
+                }
                 break 'token Lexed::Refused(wrong_chr(Place::Outside, text, at));
             }
         }

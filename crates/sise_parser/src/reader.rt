@@ -3,7 +3,6 @@ use crate::error::ParseError;
 use crate::lexer::Lexed;
 use crate::lexer::Token;
 use crate::lexer::get_token;
-use sise_util::classes::classes;
 ghost use mathlib.Core.Path.{_≡_};
 ghost use Prim.Native.Nat.{_≤_, _<_, _^_};
 ghost use Rattle.sise_parser.specs.Reader.{freshReader, listsFit, isSound, inBeginning, inParsing, nextItem, finishReading, partOf, next, reader};
@@ -188,8 +187,7 @@ impl Reader {
         if let Phase::Finishing = phase {
             return refused(position, phase, lists, ParseError::ParsingFinished);
         }
-        let classes = classes();
-        match get_token(&classes, text, position) {
+        match get_token(text, position) {
             Lexed::Refused(wrong) => {
                 let error = wrong.error;
                 refused(wrong.position, phase, lists, error)
@@ -216,8 +214,7 @@ impl Reader {
         let Phase::Finishing = phase else {
             return Finished::Refused(ParseError::ParsingNotFinished);
         };
-        let classes = classes();
-        match get_token(&classes, text, position) {
+        match get_token(text, position) {
             Lexed::Refused(wrong) => {
                 let error = wrong.error;
                 Finished::Refused(error)

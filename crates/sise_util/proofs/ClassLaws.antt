@@ -52,7 +52,7 @@ unfolding oneOf
 no-oneOf [] b t h = refl
 no-oneOf (n ∷ l) b t h = rw (no-eqb n b (and-left (ltb n 127) (all127 l) t) h) (no-oneOf l b (and-right (ltb n 127) (all127 l) t) h)
 
-no-atom-chr : (b : ℕ) → 127 ≤ b → isAtomChr b ≡ false
+pub no-atom-chr : (b : ℕ) → 127 ≤ b → isAtomChr b ≡ false
 unfolding isAtomChr
 no-atom-chr b h = rw (no-oneOf marks b (unfold marks in tt) h, no-within 48 57 b tt h, no-within 65 90 b tt h, no-within 97 122 b tt h)
 
@@ -100,3 +100,36 @@ pub backslash-class : (b : ℕ) → eqb b 92 ≡ among (backslash ∷ []) (class
 backslash-class =
     agree (λ b. eqb b 92) (λ b. among (backslash ∷ []) (classOf b)) (unfold classOf among in tt)
     (λ b h. no-eqb 92 b tt h ∙ sym (ap (among (backslash ∷ [])) (no-class b h) ∙ (unfold among in refl)))
+
+-- a test of bytes that says whether the class has the number m: computed up to 0x7E, and false past it
+by-number : (f : ℕ → Bool) (m : ℕ) → T (allFrom (λ b. Bool·beq (eqb (classNumber (classOf b)) m) (f b)) 0 127) → ((b : ℕ) → 127 ≤ b → f b ≡ false)
+    → eqb 6 m ≡ false → (b : ℕ) → f b ≡ eqb (classNumber (classOf b)) m
+by-number f m t high no6 =
+    agree f (λ b. eqb (classNumber (classOf b)) m) t (λ b h. high b h ∙ sym (ap (λ (c : Class). eqb (classNumber c) m) (no-class b h) ∙ other-number ∙ no6))
+  where
+    other-number : eqb (classNumber other) m ≡ eqb 6 m
+    other-number = unfold classNumber in refl
+
+pub space-number : (b : ℕ) → eqb b 32 ≡ eqb (classNumber (classOf b)) 0
+space-number = by-number (λ b. eqb b 32) 0 (unfold classOf classNumber in tt) (λ b h. no-eqb 32 b tt h) refl
+
+pub tab-number : (b : ℕ) → eqb b 9 ≡ eqb (classNumber (classOf b)) 2
+tab-number = by-number (λ b. eqb b 9) 2 (unfold classOf classNumber in tt) (λ b h. no-eqb 9 b tt h) refl
+
+pub line-end-number : (b : ℕ) → oneOf (10 ∷ 13 ∷ []) b ≡ eqb (classNumber (classOf b)) 4
+line-end-number = by-number (oneOf (10 ∷ 13 ∷ [])) 4 (unfold classOf classNumber in tt) (λ b h. no-oneOf (10 ∷ 13 ∷ []) b tt h) refl
+
+pub semicolon-number : (b : ℕ) → eqb b 59 ≡ eqb (classNumber (classOf b)) 7
+semicolon-number = by-number (λ b. eqb b 59) 7 (unfold classOf classNumber in tt) (λ b h. no-eqb 59 b tt h) refl
+
+pub left-number : (b : ℕ) → eqb b 40 ≡ eqb (classNumber (classOf b)) 8
+left-number = by-number (λ b. eqb b 40) 8 (unfold classOf classNumber in tt) (λ b h. no-eqb 40 b tt h) refl
+
+pub right-number : (b : ℕ) → eqb b 41 ≡ eqb (classNumber (classOf b)) 9
+right-number = by-number (λ b. eqb b 41) 9 (unfold classOf classNumber in tt) (λ b h. no-eqb 41 b tt h) refl
+
+pub quote-number : (b : ℕ) → eqb b 34 ≡ eqb (classNumber (classOf b)) 1
+quote-number = by-number (λ b. eqb b 34) 1 (unfold classOf classNumber in tt) (λ b h. no-eqb 34 b tt h) refl
+
+pub atom-number : (b : ℕ) → isAtomChr b ≡ eqb (classNumber (classOf b)) 3
+atom-number = by-number isAtomChr 3 (unfold classOf classNumber isAtomChr in tt) no-atom-chr refl

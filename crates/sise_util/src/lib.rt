@@ -8,5 +8,6 @@ pub use utf8::Character;
 pub use utf8::character_at;
 pub use util::check_atom;
 pub use util::check_atom_prefix;
+pub use util::is_atom_byte;
 pub use util::is_atom_chr;
 pub use util::is_atom_string_chr;

@@ -43,6 +43,24 @@ pub fn is_atom_string_chr(chr: u8) -> bool
     }
 }
 
+// The atom characters below 64 and from 64 to 127, a bit each.
+const LOW_ATOM_CHRS: u64 = 0xF7FF_EC7A_0000_0000;
+
+const HIGH_ATOM_CHRS: u64 = 0x47FF_FFFE_87FF_FFFF;
+
+// The same as is_atom_chr, by a bit of a mask: for loops over many bytes, where it is the faster one.
+pub fn is_atom_byte(byte: u8) -> bool
+    ensures { λ r. ⌜ r ≡ isAtomChr byte ⌝ }
+{
+    if byte < 64 {
+        (LOW_ATOM_CHRS >> (byte as u64)) % 2 == 1
+    } else if byte < 128 {
+        (HIGH_ATOM_CHRS >> ((byte - 64) as u64)) % 2 == 1
+    } else {
+        false
+    }
+}
+
 // Whether `chr` may follow a `\` in a string.
 fn is_escaped_chr(chr: u8) -> bool
     ensures { λ r. ⌜ r ≡ isEscapedChr chr ⌝ }

@@ -10,7 +10,8 @@ use borrow.Author.Needs.{needs}
 use Rattle.sise_parser.specs.Lexer.{plain}
 use Rattle.sise_parser.specs.Meaning.{Ends, EndsFrom, stringThen}
 use Rattle.sise_parser.specs.declared.lexer.StringEnd.{StringEnd}
-use Rattle.sise_parser.proofs.Steps.{plain-end, plain-on, plain-quote, plain-stops}
+use Rattle.sise_parser.proofs.Steps.{plain-end}
+use Rattle.sise_parser.proofs.ByteSteps.{plain-atom, plain-string, plain-stop}
 use Rattle.sise_parser.proofs.lexer.lex_atom.Statement.{statement}
 use Rattle.sise_parser.proofs.lexer.lex_atom.Tie as tie
 
@@ -20,10 +21,10 @@ record InAtom (text : List ℕ) (start at : ℕ) : Type 0 where
   same : plain (drop start text) start start ≡ plain (drop at text) at start
 
 abbrev Inv-loop : tie.InvT-loop
-Inv-loop classes text start at₀ at = InAtom text start at
+Inv-loop text start at₀ at = InAtom text start at
 
 abbrev μ-loop : tie.MeasureT-loop
-μ-loop classes text start at₀ at = length text - at
+μ-loop text start at₀ at = length text - at
 
 -- a string's end, where it was told which it is
 told : {text : List ℕ} {from : ℕ} {r e : StringEnd} → Ends text from r → r ≡ e → Ends text from e
@@ -38,7 +39,8 @@ lex-atom-spec =
     (λ c. record { after = le-refl _; within = omega arith; same = refl })  -- loop-holds
     (λ c. search needs)  -- sub-t9
     (λ c. sym (c .before .loop .inv .same ∙ plain-end _ (c .if1 .taken) _))  -- returns
-    (λ c κs. search needs)  -- class-at-requires
+    (λ c. search needs)  -- shared-slice-read-byte
+    (λ c κs. search needs)  -- is-atom-byte-requires
     (λ c. search needs)  -- add-at
     (λ c. search needs)  -- loop-less
     -- loop-again
@@ -46,7 +48,7 @@ lex-atom-spec =
     record {
       after = omega arith;
       within = omega arith;
-      same = c .before .before .before .loop .inv .same ∙ plain-on (c .before .class-at .ensures) _ (c .match .keys1);
+      same = c .before .before .before .before .loop .inv .same ∙ plain-atom _ _ (c .before .before .before .if1 .left) _ (sym (c .before .is-atom-byte .ensures) ∙ c .if2 .taken);
     })
     (λ c. search needs)  -- add-lex-string
     (λ c κs. search needs)  -- lex-string-requires
@@ -59,18 +61,16 @@ lex-atom-spec =
     record {
       after = omega (arith, e .after);
       within = omega (arith, e .after);
-      same =
-          c .before .before .before .before .before .before .before .loop .inv .same
-          ∙ plain-quote (c .before .before .before .before .before .class-at .ensures) _ (c .before .before .before .before .match .keys2)
-          ∙ e .same _;
+      same = c .before .before .before .before .before .before .before .before .before .loop .inv .same ∙ plain-string _ _ (c .before .before .before .before .before .before .before .before .if1 .left) _ (c .before .before .before .before .if3 .taken) ∙ e .same _;
     })
     (λ c. search needs)  -- enum-known-wrong
     -- returns-2
     (λ c.
     let e = told (c .before .before .before .lex-string .ensures) (c .before .wrong .given .1) in
+    sym (c .before .before .before .before .before .before .before .before .before .loop .inv .same ∙ plain-string _ _ (c .before .before .before .before .before .before .before .before .if1 .left) _ (c .before .before .before .before .if3 .taken) ∙ e .same _))
+    (λ c. search needs)  -- sub-t17
+    -- returns-3
+    (λ c.
     sym
-    (c .before .before .before .before .before .before .before .loop .inv .same
-    ∙ plain-quote (c .before .before .before .before .before .class-at .ensures) _ (c .before .before .before .before .match .keys2)
-    ∙ e .same _))
-    (λ c. search needs)  -- sub-t14
-    (λ c. sym (c .before .before .before .loop .inv .same ∙ plain-stops (c .before .class-at .ensures) _ (c .match .rest))))  -- returns-3
+    (c .before .before .before .before .before .loop .inv .same
+    ∙ plain-stop _ _ (c .before .before .before .before .if1 .left) _ (sym (c .before .before .is-atom-byte .ensures) ∙ c .before .if2 .left) (c .if3 .left))))

@@ -19,10 +19,10 @@ record InString (text : List ℕ) (from at : ℕ) : Type 0 where
   same : (s : ℕ) → string (drop from text) from s ≡ string (drop at text) at s
 
 abbrev Inv-loop : tie.InvT-loop
-Inv-loop classes text from at₀ at = InString text from at
+Inv-loop text from table at₀ at = InString text from at
 
 abbrev μ-loop : tie.MeasureT-loop
-μ-loop classes text from at₀ at = length text - at
+μ-loop text from table at₀ at = length text - at
 
 pub lex-string-spec : {M : Type 1} → statement M
 lex-string-spec =
@@ -30,6 +30,7 @@ lex-string-spec =
     (tie.spec
     Inv-loop
     μ-loop
+    (λ c κs. search needs)  -- classes-requires
     (λ c. record { after = le-refl _; within = omega arith; same = λ s. refl })  -- loop-holds
     (λ c κs. search needs)  -- unfinished-string-requires
     -- returns
@@ -39,11 +40,11 @@ lex-string-spec =
       after = tt;
     })
     (λ c κs. search needs)  -- class-at-requires
-    (λ c. search needs)  -- add-t9
+    (λ c. search needs)  -- add-t11
     -- returns-2
     (λ c.
     record {
-      same = λ s. c .before .before .before .loop .inv .same s ∙ string-quote (c .before .class-at .ensures) s (c .match .keys1);
+      same = λ s. c .before .before .before .before .loop .inv .same s ∙ string-quote (c .before .class-at .ensures) s (c .match .keys1);
       after = omega arith;
     })
     (λ c. search needs)  -- add-at
@@ -52,7 +53,7 @@ lex-string-spec =
     (λ c.
     record {
       same = λ s.
-          c .before .before .before .before .before .loop .inv .same s
+          c .before .before .before .before .before .before .loop .inv .same s
           ∙ string-backslash (c .before .before .before .class-at .ensures) s (c .before .before .match .keys2)
           ∙ escape-end _ (c .before .if2 .taken) s
           ∙ sym (c .unfinished-string2 .ensures);
@@ -64,8 +65,8 @@ lex-string-spec =
     (λ c.
     record {
       same = λ s.
-          c .before .before .before .before .before .before .before .loop .inv .same s
-          ∙ string-backslash (c .before .before .before .before .before .class-at .ensures) s (c .before .before .before .before .match .keys2)
+          c .before .before .before .before .before .before .before .before .before .loop .inv .same s
+          ∙ string-backslash (c .before .before .before .before .before .before .class-at .ensures) s (c .before .before .before .before .before .match .keys2)
           ∙ escape-wrong (c .before .before .class-at2 .ensures) s (c .before .match2 .keys1)
           ∙ sym (c .wrong-chr .ensures);
       after = tt;
@@ -78,18 +79,15 @@ lex-string-spec =
       after = omega arith;
       within = omega arith;
       same = λ s.
-          c .before .before .before .before .before .before .loop .inv .same s
-          ∙ string-backslash (c .before .before .before .before .class-at .ensures) s (c .before .before .before .match .keys2)
+          c .before .before .before .before .before .before .before .before .loop .inv .same s
+          ∙ string-backslash (c .before .before .before .before .before .class-at .ensures) s (c .before .before .before .before .match .keys2)
           ∙ escape-on (c .before .class-at2 .ensures) s (c .match2 .rest);
     })
     (λ c κs. search needs)  -- wrong-chr-requires-2
     -- returns-5
     (λ c.
     record {
-      same = λ s.
-          c .before .before .before .before .loop .inv .same s
-          ∙ string-wrong (c .before .before .class-at .ensures) s (c .before .match .keys3)
-          ∙ sym (c .wrong-chr2 .ensures);
+      same = λ s. c .before .before .before .before .before .loop .inv .same s ∙ string-wrong (c .before .before .class-at .ensures) s (c .before .match .keys3) ∙ sym (c .wrong-chr2 .ensures);
       after = tt;
     })
     (λ c. search needs)  -- add-at-3
@@ -99,5 +97,5 @@ lex-string-spec =
     record {
       after = omega arith;
       within = omega arith;
-      same = λ s. c .before .before .before .loop .inv .same s ∙ string-on (c .before .class-at .ensures) s (c .match .rest);
+      same = λ s. c .before .before .before .before .loop .inv .same s ∙ string-on (c .before .class-at .ensures) s (c .match .rest);
     }))

@@ -42,18 +42,21 @@ unfolding tokenAt endsAt
 finish-spec =
     tie.close
     (tie.spec
-    (λ c κs. search needs)
+    (λ c κs. search needs)  -- is-sound-requires
     (λ c. finish-unsound (c .before .before .before .args .text .now) (c .before .before .before .args .self) (sym (c .before .is-sound .ensures) ∙ not-true _ (c .if1 .taken)))  -- returns
-    (λ c. search needs)
+    (λ c. search needs)  -- enum-told
     (λ c. finish-early (c .before .before .before .before .args .text .now) (c .before .before .before .before .args .self) (sym (c .before .before .is-sound .ensures) ∙ not-false _ (c .before .if1 .left)) (c .match .keys2))  -- returns-2
-    (λ c κs. search needs)
-    (λ c κs. search needs)
-    (λ c. search needs)
-    (λ c. search needs)
-    (λ c. search needs)
+    (λ c κs. search needs)  -- get-token-requires
+    (λ c. search needs)  -- enum-known-wrong
+    (λ c. search needs)  -- enum-known-token
+    (λ c. search needs)  -- enum-told-2
     -- returns-3
-    (λ c. finish-token (c .before .before .before .before .before .before .before .before .before .before .before .args .text .now) (c .before .before .before .before .before .before .before .before .before .before .before .args .self) (sym (c .before .before .before .before .before .before .before .before .before .is-sound .ensures) ∙ not-false _ (c .before .before .before .before .before .before .before .before .if1 .left)) (c .before .before .before .before .before .before .enum-told .given .1) (ap lexedAs (sym (c .before .wrong .given .1)) ∙ c .before .before .before .get-token .ensures))
+    (λ c. finish-token (c .before .before .before .before .before .before .before .before .before .args .text .now) (c .before .before .before .before .before .before .before .before .before .args .self) (sym (c .before .before .before .before .before .before .before .is-sound .ensures) ∙ not-false _ (c .before .before .before .before .before .before .if1 .left)) (c .before .before .before .before .enum-told .given .1) (ap lexedAs (sym (c .before .wrong .given .1)) ∙ c .before .before .before .get-token .ensures))
     -- returns-4
-    (λ c. at-end (c .before .before .before .token .given .1) (c .enum-told2 .given .1) ∙ finish-token (c .before .before .before .before .before .before .before .before .before .before .before .before .before .args .text .now) (c .before .before .before .before .before .before .before .before .before .before .before .before .before .args .self) (sym (c .before .before .before .before .before .before .before .before .before .before .before .is-sound .ensures) ∙ not-false _ (c .before .before .before .before .before .before .before .before .before .before .if1 .left)) (c .before .before .before .before .before .before .before .before .enum-told .given .1) (c .before .before .before .before .before .get-token .ensures))
+    (λ c.
+    at-end (c .before .before .before .token .given .1) (c .enum-told2 .given .1)
+    ∙ finish-token (c .before .before .before .before .before .before .before .before .before .before .before .args .text .now) (c .before .before .before .before .before .before .before .before .before .before .before .args .self) (sym (c .before .before .before .before .before .before .before .before .before .is-sound .ensures) ∙ not-false _ (c .before .before .before .before .before .before .before .before .if1 .left)) (c .before .before .before .before .before .before .enum-told .given .1) (c .before .before .before .before .before .get-token .ensures))
     -- returns-5
-    (λ c. before-end (c .before .before .token .given .1) (c .match3 .keys2) ∙ finish-token (c .before .before .before .before .before .before .before .before .before .before .before .before .args .text .now) (c .before .before .before .before .before .before .before .before .before .before .before .before .args .self) (sym (c .before .before .before .before .before .before .before .before .before .before .is-sound .ensures) ∙ not-false _ (c .before .before .before .before .before .before .before .before .before .if1 .left)) (c .before .before .before .before .before .before .before .enum-told .given .1) (c .before .before .before .before .get-token .ensures)))
+    (λ c.
+    before-end (c .before .before .token .given .1) (c .match3 .keys2)
+    ∙ finish-token (c .before .before .before .before .before .before .before .before .before .before .args .text .now) (c .before .before .before .before .before .before .before .before .before .before .args .self) (sym (c .before .before .before .before .before .before .before .before .is-sound .ensures) ∙ not-false _ (c .before .before .before .before .before .before .before .if1 .left)) (c .before .before .before .before .before .enum-told .given .1) (c .before .before .before .before .get-token .ensures)))

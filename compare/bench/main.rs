@@ -1,0 +1,91 @@
+//! The proved library and the crate sise 0.8.0 on the same texts, in one program: rounds in turn, the least time of each, and the ratio of the two.
+//! A ratio above 1 says that the library is faster.
+
+use std::time::Instant;
+
+mod util {
+    include!(concat!(env!("SISE_SRC"), "/util.rs"));
+}
+
+mod parser {
+    include!(concat!(env!("SISE_SRC"), "/parser.rs"));
+}
+
+use parser::{ParsedItem, Parser};
+pub use util::{is_atom_chr, is_atom_string_chr};
+
+extern "C" {
+    fn sise_count_items(text: *const u8, len: usize) -> u64;
+}
+
+fn library_items(text: &str) -> u64 {
+    // The text outlives the call, which reads it and keeps nothing.
+    unsafe { sise_count_items(text.as_ptr(), text.len()) }
+}
+
+/// The items up to the end of the outermost one, after which the crate would panic.
+fn crate_items(text: &str) -> u64 {
+    let mut parser = Parser::new(text);
+    let mut items = 0;
+    let mut open = 0u64;
+    while let Ok(item) = parser.next_item() {
+        items += 1;
+        match item {
+            ParsedItem::ListStart(_) => open += 1,
+            ParsedItem::ListEnd(_) => open -= 1,
+            ParsedItem::Atom(..) => {}
+        }
+        if open == 0 {
+            break;
+        }
+    }
+    items
+}
+
+const ROUNDS: usize = 30;
+
+fn seconds(run: impl Fn() -> u64) -> f64 {
+    let start = Instant::now();
+    std::hint::black_box(run());
+    start.elapsed().as_secs_f64()
+}
+
+/// The least times of the library and of the crate, in seconds.
+fn least(text: &str) -> (f64, f64) {
+    assert_eq!(library_items(text), crate_items(text));
+    let mut best = (f64::MAX, f64::MAX);
+    for _ in 0..ROUNDS {
+        best.0 = best.0.min(seconds(|| library_items(std::hint::black_box(text))));
+        best.1 = best.1.min(seconds(|| crate_items(std::hint::black_box(text))));
+    }
+    best
+}
+
+fn list_of(piece: &str, size: usize) -> String {
+    format!("({})", piece.repeat(size / piece.len()))
+}
+
+/// The sample profile's list again and again, in one list.
+fn typical(size: usize) -> String {
+    list_of(include_str!("../../profiles/stage.sise"), size)
+}
+
+fn row(name: &str, text: &str) {
+    let (library, original) = least(text);
+    let rate = text.len() as f64 / library / 1e6;
+    println!("{name:<28} {:>10} bytes {rate:>8.0} MB/s {:>8.2}", text.len(), original / library);
+}
+
+fn main() {
+    const SIZE: usize = 1_000_000;
+    println!("{:<28} {:>16} {:>13} {:>8}", "reading", "", "library", "ratio");
+    row("typical profile", &typical(SIZE));
+    row("short atoms", &list_of("x 12 -0.5 ", SIZE));
+    row("long atoms", &list_of(&format!("{} ", "travel-limit.".repeat(100)), SIZE));
+    row("long strings", &list_of(&format!("\"{}\" ", "focus (mm) \\\" ".repeat(100)), SIZE));
+    row("deep nesting", &format!("{}{}", "(".repeat(SIZE / 2), ")".repeat(SIZE / 2)));
+    row("comments", &list_of("; the stage's own limits, in millimetres\n", SIZE));
+    for size in [10_000, 100_000, 1_000_000, 16_000_000] {
+        row("typical profile, growing", &typical(size));
+    }
+}
