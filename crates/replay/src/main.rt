@@ -11,14 +11,14 @@
 // for finish the line `ok` or `! number place code`.
 //
 // At a case that is malformed, or that the script's end cuts off, the line `malformed` is printed, and nothing after it.
+mod reader_case;
+mod script;
+
 ghost use Prim.Native.Nat.{_<_};
 ghost use lib.ListN.{length};
 ghost use Rattle.replay.specs.Script.{Onward};
 use crate::script::Ran;
 use libc::STDIN_FILENO;
-
-mod reader_case;
-mod script;
 
 // Runs the case that begins at `from`.
 fn run_case(out: &mut [u8], at: usize, script: &[u8], from: usize) -> Ran

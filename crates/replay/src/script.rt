@@ -33,7 +33,7 @@ fn digit_value(byte: u8) -> usize {
     }
 }
 
-// The number that begins at `from` and ends before the byte `end`.
+// The number that begins at `from` and ends before the byte `end`. One of 1,000,000,000 or more is malformed, so that no sum wraps.
 fn read_number(script: &[u8], from: usize, end: u8) -> Number
     ensures { λ r. ⌜ NumberFrom from (length (now (script .entry))) r ⌝ }
 {
