@@ -1,7 +1,10 @@
 // Text for a program's output, put together in a lent buffer so that it is written in blocks. What does not fit is cut off.
 ghost use mathlib.Core.Path.{_≡_};
 ghost use mathlib.Core.List.{[], _∷_};
+ghost use lib.ListN.{length};
 ghost use Rattle.lines.specs.Put.{Puts, PutsDecimal};
+ghost use Rattle.lines.specs.Block.{placeWithRoom};
+use libc::STDOUT_FILENO;
 
 // Puts the bytes from `at` of the buffer on, and answers the place after them.
 pub fn put_bytes(out: &mut [u8], at: usize, bytes: &[u8]) -> usize
@@ -35,4 +38,27 @@ pub fn put_decimal(out: &mut [u8], at: usize, n: u64) -> usize
     let mut text = [0u8; 20];
     let k = io::decimal(n, &mut text);
     put_bytes(out, at, &text[..k])
+}
+
+// Writes the bytes before `at` of the buffer to standard output, and answers where the next block begins. No contract can say what is written.
+pub fn flush(out: &[u8], at: usize) -> usize
+    ensures { λ r. ⌜ r ≡ 0 ⌝ }
+{
+    if out.len() < at {
+        io::write_all(STDOUT_FILENO, out);
+    } else {
+        io::write_all(STDOUT_FILENO, &out[..at]);
+    }
+    0
+}
+
+// Sees that n bytes have room from the place answered on: the block is written if the buffer has fewer left.
+pub fn make_room(out: &[u8], at: usize, n: usize) -> usize
+    ensures { λ r. ⌜ r ≡ placeWithRoom (length (now (out .entry))) at n ⌝ }
+{
+    if at <= out.len() && n <= out.len() - at {
+        at
+    } else {
+        flush(out, at)
+    }
 }

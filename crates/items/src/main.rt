@@ -1,0 +1,90 @@
+// Prints the items of the SISE text on standard input, a line each: `L place` where a list starts, `A place length` for an atom, `E place` where a list
+// ends. The last line is `ok`, or, at the first refusal, `refused number place` with document 01's number, and the place 0 where it has none. A text of
+// more than 65,536 bytes gives the one line `long`.
+use libc::STDIN_FILENO;
+use sise_parser::Answer;
+use sise_parser::Finished;
+use sise_parser::ParseError;
+use sise_parser::ParsedItem;
+use sise_parser::Phase;
+use sise_parser::Reader;
+
+// No line is longer.
+const LINE: usize = 64;
+
+fn put_number(out: &mut [u8], at: usize, n: usize) -> usize {
+    let at = lines::put_byte(out, at, b' ');
+    lines::put_decimal(out, at, n as u64)
+}
+
+fn put_letter(out: &mut [u8], at: usize, letter: u8, place: usize) -> usize {
+    let at = lines::put_byte(out, at, letter);
+    put_number(out, at, place)
+}
+
+fn put_item(out: &mut [u8], at: usize, item: ParsedItem) -> usize {
+    match item {
+        ParsedItem::ListStart { pos } => put_letter(out, at, b'L', pos),
+        ParsedItem::Atom { pos, len } => {
+            let at = put_letter(out, at, b'A', pos);
+            put_number(out, at, len)
+        }
+        ParsedItem::ListEnd { pos } => put_letter(out, at, b'E', pos),
+    }
+}
+
+fn put_refused(out: &mut [u8], at: usize, error: ParseError) -> usize {
+    let at = lines::put_bytes(out, at, b"refused");
+    let at = put_number(out, at, error.number() as usize);
+    let at = put_number(out, at, error.place());
+    lines::put_byte(out, at, b'\n')
+}
+
+fn put_finished(out: &mut [u8], at: usize, finished: Finished) -> usize {
+    match finished {
+        Finished::Done => lines::put_bytes(out, at, b"ok\n"),
+        Finished::Refused(error) => put_refused(out, at, error),
+    }
+}
+
+// Each turn but the last reads an item, and a text of n bytes has n items at most, so that n + 1 turns are enough.
+fn print_items(text: &[u8]) {
+    let mut out = io::buffer();
+    let mut at = 0;
+    let mut reader = Reader::new();
+    let mut turns = text.len() + 1;
+    while 0 < turns {
+        turns -= 1;
+        at = lines::make_room(&out, at, LINE);
+        let phase = reader.phase;
+        if let Phase::Finishing = phase {
+            at = put_finished(&mut out, at, reader.finish(text));
+            break;
+        }
+        let next = reader.next_item(text);
+        reader = next.reader;
+        let answer = next.answer;
+        match answer {
+            Answer::Item(item) => {
+                at = put_item(&mut out, at, item);
+                at = lines::put_byte(&mut out, at, b'\n');
+            }
+            Answer::Refused(error) => {
+                at = put_refused(&mut out, at, error);
+                break;
+            }
+        }
+    }
+    lines::flush(&out, at);
+}
+
+fn main() {
+    let mut text = io::large_buffer();
+    let n = io::read_full(STDIN_FILENO, &mut text);
+    let mut more = [0u8; 1];
+    if n == 65536 && 0 < io::read_full(STDIN_FILENO, &mut more) {
+        lines::flush(b"long\n", 5);
+    } else {
+        print_items(&text[..n]);
+    }
+}

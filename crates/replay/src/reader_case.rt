@@ -1,0 +1,149 @@
+// The reader's cases.
+ghost use Prim.Native.Nat.{_<_};
+ghost use Rattle.replay.specs.Script.{Onward};
+use crate::script::Ran;
+use crate::script::ReaderCase;
+use crate::script::read_reader_case;
+use sise_parser::Answer;
+use sise_parser::Finished;
+use sise_parser::ParseError;
+use sise_parser::ParsedItem;
+use sise_parser::Phase;
+use sise_parser::Reader;
+use sise_parser::atom_bytes;
+
+// No line is longer, but for an atom's bytes.
+pub(crate) const LINE: usize = 64;
+
+fn put_number(out: &mut [u8], at: usize, n: usize) -> usize {
+    let at = lines::put_byte(out, at, b' ');
+    lines::put_decimal(out, at, n as u64)
+}
+
+fn put_letter(out: &mut [u8], at: usize, letter: u8, place: usize) -> usize {
+    let at = lines::put_byte(out, at, letter);
+    put_number(out, at, place)
+}
+
+fn put_item(out: &mut [u8], at: usize, item: ParsedItem) -> usize {
+    match item {
+        ParsedItem::ListStart { pos } => put_letter(out, at, b'L', pos),
+        ParsedItem::Atom { pos, len } => {
+            let at = put_letter(out, at, b'A', pos);
+            put_number(out, at, len)
+        }
+        ParsedItem::ListEnd { pos } => put_letter(out, at, b'E', pos),
+    }
+}
+
+fn put_error(out: &mut [u8], at: usize, error: ParseError) -> usize {
+    let at = put_letter(out, at, b'!', error.number() as usize);
+    let at = put_number(out, at, error.place());
+    put_number(out, at, error.code() as usize)
+}
+
+fn put_answer(out: &mut [u8], at: usize, answer: Answer) -> usize {
+    match answer {
+        Answer::Item(item) => put_item(out, at, item),
+        Answer::Refused(error) => put_error(out, at, error),
+    }
+}
+
+fn phase_number(phase: Phase) -> usize {
+    match phase {
+        Phase::Beginning => 0,
+        Phase::Parsing => 1,
+        Phase::Finishing => 2,
+    }
+}
+
+fn put_record(out: &mut [u8], at: usize, reader: Reader) -> usize {
+    let phase = reader.phase;
+    let at = lines::put_bytes(out, at, b" |");
+    let at = put_number(out, at, reader.position);
+    let at = put_number(out, at, phase_number(phase));
+    put_number(out, at, reader.lists)
+}
+
+// Puts the bytes, with room for the line end left. Those that are too many for the buffer are written from where they are.
+fn put_atom(out: &mut [u8], at: usize, bytes: &[u8]) -> usize {
+    if out.len() <= bytes.len() {
+        let next = lines::flush(out, at);
+        lines::flush(bytes, bytes.len());
+        return next;
+    }
+    let at = lines::make_room(out, at, bytes.len() + 1);
+    lines::put_bytes(out, at, bytes)
+}
+
+fn put_atom_of(out: &mut [u8], at: usize, text: &[u8], answer: Answer) -> usize {
+    let Answer::Item(item) = answer else {
+        return at;
+    };
+    let ParsedItem::Atom { pos, len } = item else {
+        return at;
+    };
+    let at = lines::put_bytes(out, at, b" | ");
+    put_atom(out, at, atom_bytes(text, pos, len))
+}
+
+// The line of a next_item call that left the record `reader`.
+fn put_call(out: &mut [u8], at: usize, text: &[u8], reader: Reader, answer: Answer) -> usize {
+    let at = lines::make_room(out, at, LINE);
+    let at = put_answer(out, at, answer);
+    let at = put_record(out, at, reader);
+    let at = put_atom_of(out, at, text, answer);
+    lines::put_byte(out, at, b'\n')
+}
+
+fn put_finished(out: &mut [u8], at: usize, finished: Finished) -> usize {
+    let at = lines::make_room(out, at, LINE);
+    match finished {
+        Finished::Done => lines::put_bytes(out, at, b"ok\n"),
+        Finished::Refused(error) => {
+            let at = put_error(out, at, error);
+            lines::put_byte(out, at, b'\n')
+        }
+    }
+}
+
+fn put_case(out: &mut [u8], from: usize, text: &[u8], calls: usize, finish: bool) -> usize {
+    let at = lines::make_room(out, from, LINE);
+    let mut at = lines::put_bytes(out, at, b"case\n");
+    let mut reader = Reader::new();
+    let mut left = calls;
+    while 0 < left {
+        left -= 1;
+        let next = reader.next_item(text);
+        reader = next.reader;
+        let answer = next.answer;
+        at = put_call(out, at, text, reader, answer);
+    }
+    if finish {
+        put_finished(out, at, reader.finish(text))
+    } else {
+        at
+    }
+}
+
+// Runs the reader's case whose letter stands before `from`.
+pub(crate) fn run(out: &mut [u8], at: usize, script: &[u8], from: usize) -> Ran
+    ensures { λ r. ⌜ Onward from r ⌝ }
+{
+    match read_reader_case(script, from) {
+        ReaderCase::Read {
+            start,
+            len,
+            calls,
+            finish,
+        } => {
+            let end = start + len;
+            let place = put_case(out, at, &script[start..end], calls, finish);
+            Ran::Case {
+                place,
+                next: end + 1,
+            }
+        }
+        ReaderCase::Malformed => Ran::Malformed,
+    }
+}
