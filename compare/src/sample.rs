@@ -12,13 +12,16 @@ const LARGEST_SCRIPT: usize = 60_000;
 
 pub fn run(words: &[String]) -> Result<bool, String> {
     let mut judge = Judge::default();
-    let (script, answers) = judge.script_and_answers(&cases());
+    let (mut script, mut answers) = judge.script_and_answers(&cases());
     if judge.disagreements.count > 0 {
         return Err(String::from("model and crate disagree on the sample"));
     }
     if script.len() >= LARGEST_SCRIPT {
         return Err(format!("the sample's script has {} bytes", script.len()));
     }
+    // Last a case whose text runs past the script.
+    script.extend_from_slice(b"R 9 1 1\n(a");
+    answers.extend_from_slice(b"malformed\n");
     let out = match words {
         [word] if word == "script" => script,
         [word] if word == "answers" => answers,
