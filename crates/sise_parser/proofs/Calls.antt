@@ -26,11 +26,11 @@ pub record Sound (n : ℕ) (r : Reader) : Type 0 where
   pub opened : r .lists ≤ r .position
   pub fit : listsFit (r .phase) (r .lists) ≡ true
 
-and-first : (a b : Bool) → a && b ≡ true → a ≡ true
+pub and-first : (a b : Bool) → a && b ≡ true → a ≡ true
 and-first true b h = refl
 and-first false b h = h
 
-and-second : (a b : Bool) → a && b ≡ true → b ≡ true
+pub and-second : (a b : Bool) → a && b ≡ true → b ≡ true
 and-second true b h = h
 and-second false b h = absurd (false≢true h)
 

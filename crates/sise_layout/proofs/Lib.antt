@@ -1,0 +1,12 @@
+pub mod Lexing
+pub mod Blanks
+pub mod Following
+pub mod ReaderSteps
+pub mod Pieces
+pub mod Outcomes
+pub mod Written
+pub mod ReadBack
+pub mod Lengths
+pub mod OneNode
+pub mod Buffers
+pub mod Demand3

@@ -1,0 +1,5 @@
+pub mod Calls
+pub mod Reading
+pub mod Nodes
+pub mod Claim
+pub mod Examples
