@@ -3,10 +3,9 @@
 -- Assumes nothing.
 use Prim.Native.Nat.{ℕ, _+_, _≤_, min}
 use native.Mathlib.Omega.{arith}
-use native.Mathlib.Nat.{add-zero}
 use mathlib.Core.Path.{_≡_, refl, sym, ap, _∙_, subst}
 use mathlib.Core.List.{List, [], _∷_, _++_, append-assoc, append-nil}
-use lib.ListN.{length, take, drop, length-append, length-drop, take-append-drop}
+use lib.ListN.{length, take, drop, length-append, length-drop}
 use lib.Seq.{take-at, length-take-le}
 use Rattle.sise_serializer.specs.Bytes.{pasted}
 use Rattle.sise_serializer.specs.Serializer.{Style, Written, limit, last, freshSerializer}
@@ -14,6 +13,7 @@ use Rattle.sise_serializer.specs.declared.serializer.Serializer.{Serializer}
 use Rattle.sise_layout.specs.Calls.{Call, Placed, Run, run, writing, textOf, itemOf, step}
 use Rattle.sise_layout.proofs.Pieces.{Aligned}
 use Rattle.sise_layout.proofs.Outcomes.{Outcome, same, adds, ends, outcome, endOf}
+use Rattle.sise_layout.proofs.Refused.{pasted-none}
 use Rattle.sise_layout.proofs.Written.{Writes, writes, fresh-aligned, last-aligned, last-position}
 
 -- bytes that fit
@@ -55,8 +55,7 @@ module _ (s : Style) (n : ℕ) where
   piece-size buffer e at g t q = pasted-length buffer at (g ++ t) (rw (length-append, e) (omega arith)) ∙ e
 
   stored : (buffer : List ℕ) → length buffer ≡ n → (w : Serializer) → Aligned w → w .position ≤ n → (c : Call) (r : Written) → Outcome s n w c r → Stored n buffer w r
-  unfolding pasted
-  stored buffer e w i h c r (same k) = record {
+  stored buffer e w i h c r (same k u) = record {
       aligned = i;
       within = h;
       size = ap length kept ∙ e;
@@ -64,7 +63,7 @@ module _ (s : Style) (n : ℕ) where
     }
     where
       kept : pasted buffer (w .position) [] ≡ buffer
-      kept = rw (append-nil, add-zero) (take-append-drop (w .position) buffer)
+      kept = pasted-none buffer (w .position)
   stored buffer e w i h c r (adds k p a f q) = record {
       aligned = a .aligned;
       within = omega (arith, a .position);
@@ -126,3 +125,11 @@ module _ (s : Style) (buffer : List ℕ) (cs : List Call) where
   pub same-text : textOf (writing s buffer cs) ≡ bytes .text
   unfolding freshSerializer
   same-text = fresh-tied .text
+
+-- record, items and text depend on the buffer's first contents nowhere, but on its length alone
+pub first-contents : (s : Style) (b c : List ℕ) (cs : List Call) → length b ≡ length c
+    → (writing s b cs .last ≡ writing s c cs .last) × ((writing s b cs .items ≡ writing s c cs .items) × (textOf (writing s b cs) ≡ textOf (writing s c cs)))
+first-contents s b c cs e =
+    (same-last s b cs ∙ ap (λ (n : ℕ). writes s n freshSerializer cs .last) e ∙ sym (same-last s c cs),
+    (same-items s b cs ∙ ap (λ (n : ℕ). writes s n freshSerializer cs .items) e ∙ sym (same-items s c cs),
+    same-text s b cs ∙ ap (λ (n : ℕ). writes s n freshSerializer cs .text) e ∙ sym (same-text s c cs)))

@@ -10,3 +10,5 @@ pub mod Lengths
 pub mod OneNode
 pub mod Buffers
 pub mod Demand3
+pub mod Sound
+pub mod Refused

@@ -1,10 +1,10 @@
 -- Whole lists of the writer's calls (document 01, "serializer.rs: the writer": "Demand 3 speaks of lists of the calls ...").
 -- Assumes nothing.
-use Prim.Native.Nat.{ℕ, _+_}
+use Prim.Native.Nat.{ℕ, _+_, _<_}
 use mathlib.Core.Path.{_≡_}
-use mathlib.Core.Bool.{Bool, true, _&&_}
+use mathlib.Core.Bool.{Bool, true, _&&_, not}
 use mathlib.Core.List.{List, [], _∷_, _++_, map}
-use Prim.Native.Nat.{_<_}
+use lib.Dec.{eqb}
 use lib.ListN.{length, take}
 use Rattle.sise_util.specs.Chars.{oneOf}
 use Rattle.sise_serializer.specs.Bytes.{pasted}
@@ -107,3 +107,18 @@ lists [] = 0
 lists (atom a ∷ is) = lists is
 lists (listStart ∷ is) = 1 + lists is
 lists (listEnd ∷ is) = lists is
+
+-- a call with a style and a buffer, of room bytes, of its own
+pub record Styled : Type 0 where
+  pub style : Style
+  pub room : ℕ
+  pub call : Call
+
+-- the answers to such calls
+unfoldable pub answersOf : Serializer → List Styled → List Answer
+answersOf w [] = []
+answersOf w (c ∷ cs) = step (c .style) (c .room) w (c .call) .answer ∷ answersOf (step (c .style) (c .room) w (c .call) .serializer) cs
+
+unfoldable pub isNot11 : Answer → Bool
+isNot11 (accepted o) = true
+isNot11 (refused n) = not (eqb n 11)
