@@ -1,6 +1,17 @@
-// The writer's record.
+// The writer's record and its four calls.
+use crate::buffer::LIMIT;
+use crate::buffer::Spot;
+use crate::buffer::place;
+use sise_util::check_atom;
 ghost use mathlib.Core.Path.{_≡_};
-ghost use Rattle.sise_serializer.specs.Serializer.{freshSerializer};
+ghost use mathlib.Core.Bool.{true};
+ghost use Prim.Native.Nat.{_≤_, _<_};
+ghost use lib.ListN.{length};
+ghost use Rattle.sise_serializer.specs.Parts.{Small, closedWith, addedWith};
+ghost use Rattle.sise_serializer.specs.Serializer.{freshSerializer, style, listsFit, lastBreak, isSound, phaseAfter, flagsAfter, Does, place, firstAtom, firstList, inner, close, last, putAtom, beginList, endList, finishWriting};
+
+// The most open lists.
+const DEEPEST: usize = 200;
 
 // Where the writer is: before the first item, inside the outermost list, after the last item, or after an accepted finish.
 pub enum Phase {
@@ -44,6 +55,57 @@ pub struct Wrote {
     pub answer: Put,
 }
 
+// Whether so many lists may be open in a phase: one at least exactly while writing.
+fn lists_fit(phase: Phase, lists: usize) -> bool
+    ensures { λ r. ⌜ r ≡ listsFit phase lists ⌝ }
+{
+    match phase {
+        Phase::Beginning => lists == 0,
+        Phase::Writing => 1 <= lists,
+        Phase::Finished => lists == 0,
+        Phase::Done => lists == 0,
+    }
+}
+
+// finish's line break is counted too, and may be an empty string, so there may be one break more than bytes.
+fn last_break(phase: Phase) -> usize
+    ensures { λ r. ⌜ r ≡ lastBreak phase ⌝ }
+{
+    match phase {
+        Phase::Beginning => 0,
+        Phase::Writing => 0,
+        Phase::Finished => 0,
+        Phase::Done => 1,
+    }
+}
+
+// The phase with so many lists left open after a close.
+fn phase_after(lists: usize) -> Phase
+    ensures { λ r. ⌜ r ≡ phaseAfter lists ⌝ }
+{
+    if lists == 0 {
+        Phase::Finished
+    } else {
+        Phase::Writing
+    }
+}
+
+// The flags with so many lists left open after a close. A list that was broken breaks its parent.
+fn flags_after(flags: [bool; 200], lists: usize, was_broken: bool) -> [bool; 200]
+    requires { ⌜ lists < 200 ⌝ }
+    ensures { λ r. ⌜ r ≡ flagsAfter flags lists «was_broken» ⌝ }
+{
+    let mut f = flags;
+    f[lists] = false;
+    if lists == 0 {
+        return f;
+    }
+    if was_broken {
+        f[lists - 1] = true;
+    }
+    f
+}
+
 impl Serializer {
     // A writer before the first item, at the start of its buffer.
     pub fn new() -> Serializer
@@ -59,6 +121,322 @@ impl Serializer {
             spaces: 0,
             breaks: 0,
             indents: 0,
+        }
+    }
+
+    // Whether the record is one that the calls can leave.
+    fn is_sound(self) -> bool
+        ensures { λ r. ⌜ r ≡ isSound self ⌝ }
+    {
+        let position = self.position;
+        let phase = self.phase;
+        if LIMIT < position {
+            return false;
+        }
+        if position < self.line_len {
+            return false;
+        }
+        if DEEPEST < self.lists {
+            return false;
+        }
+        if !lists_fit(phase, self.lists) {
+            return false;
+        }
+        if position < self.spaces {
+            return false;
+        }
+        if position + last_break(phase) < self.breaks {
+            return false;
+        }
+        self.indents <= DEEPEST * (position + 1)
+    }
+
+    // The first item, a list.
+    fn first_list(self, buf: &mut [u8]) -> Wrote
+        ensures { λ r. ⌜ Does (place (length (now (buf .entry))) self (firstList self)) self (now (buf .entry)) r (now (buf .exit)) ⌝ }
+    {
+        let position = self.position;
+        let mut flags = self.line_broken;
+        match place(buf, position, b"", 0, b"", b"(") {
+            Spot::At(at, end) => {
+                flags[0] = false;
+                Wrote {
+                    serializer: Serializer {
+                        position: end,
+                        phase: Phase::Writing,
+                        lists: 1,
+                        line_broken: flags,
+                        list_beginning: true,
+                        line_len: 1,
+                        spaces: self.spaces,
+                        breaks: self.breaks,
+                        indents: self.indents,
+                    },
+                    answer: Put::At(at),
+                }
+            }
+            Spot::NoRoom => Wrote {
+                serializer: self,
+                answer: Put::NoRoom,
+            },
+        }
+    }
+
+    // The record with an item more, with its new flags, place and counts.
+    fn added(
+        self,
+        is_list: bool,
+        flags: [bool; 200],
+        position: usize,
+        line_len: usize,
+        spaces: usize,
+        breaks: usize,
+        indents: usize,
+    ) -> Serializer
+        requires { ⌜ («is_list» ≡ true → self .lists < 200) ⌝ }
+        ensures { λ r. ⌜ r ≡ addedWith self «is_list» flags position «line_len» spaces breaks indents ⌝ }
+    {
+        let lists = self.lists;
+        if is_list {
+            let mut line_broken = flags;
+            line_broken[lists] = false;
+            return Serializer {
+                position,
+                phase: Phase::Writing,
+                lists: lists + 1,
+                line_broken,
+                list_beginning: true,
+                line_len,
+                spaces,
+                breaks,
+                indents,
+            };
+        }
+        Serializer {
+            position,
+            phase: Phase::Writing,
+            lists,
+            line_broken: flags,
+            list_beginning: false,
+            line_len,
+            spaces,
+            breaks,
+            indents,
+        }
+    }
+
+    // An item in a list.
+    fn inner(
+        self,
+        token: &[u8],
+        is_list: bool,
+        line_break: &[u8],
+        indentation: &[u8],
+        buf: &mut [u8],
+        break_line_at: u64,
+    ) -> Wrote
+        requires { ⌜ (Small self × (0 < self .lists)) × («is_list» ≡ true → self .lists < 200) ⌝ }
+        ensures { λ r. ⌜ Does (place (length (now (buf .entry))) self (inner (style (now («line_break» .entry)) (now (indentation .entry))) self (now (token .entry)) «is_list» «break_line_at»)) self (now (buf .entry)) r (now (buf .exit)) ⌝ }
+    {
+        let position = self.position;
+        let d = self.lists;
+        let mut flags = self.line_broken;
+        let line = self.line_len as u64;
+        if break_line_at <= line {
+            match place(buf, position, line_break, d, indentation, token) {
+                Spot::At(at, end) => {
+                    flags[d - 1] = true;
+                    Wrote {
+                        serializer: self.added(
+                            is_list,
+                            flags,
+                            end,
+                            d * indentation.len() + token.len(),
+                            self.spaces,
+                            self.breaks + 1,
+                            self.indents + d,
+                        ),
+                        answer: Put::At(at),
+                    }
+                }
+                Spot::NoRoom => Wrote {
+                    serializer: self,
+                    answer: Put::NoRoom,
+                },
+            }
+        } else if self.list_beginning {
+            match place(buf, position, b"", 0, b"", token) {
+                Spot::At(at, end) => Wrote {
+                    serializer: self.added(
+                        is_list,
+                        flags,
+                        end,
+                        self.line_len + token.len(),
+                        self.spaces,
+                        self.breaks,
+                        self.indents,
+                    ),
+                    answer: Put::At(at),
+                },
+                Spot::NoRoom => Wrote {
+                    serializer: self,
+                    answer: Put::NoRoom,
+                },
+            }
+        } else {
+            match place(buf, position, b" ", 0, b"", token) {
+                Spot::At(at, end) => Wrote {
+                    serializer: self.added(
+                        is_list,
+                        flags,
+                        end,
+                        self.line_len + 1 + token.len(),
+                        self.spaces + 1,
+                        self.breaks,
+                        self.indents,
+                    ),
+                    answer: Put::At(at),
+                },
+                Spot::NoRoom => Wrote {
+                    serializer: self,
+                    answer: Put::NoRoom,
+                },
+            }
+        }
+    }
+
+    // Begins a list, on a new line if the line is at least `break_line_at` bytes long.
+    pub fn begin_list(
+        self,
+        line_break: &[u8],
+        indentation: &[u8],
+        buf: &mut [u8],
+        break_line_at: u64,
+    ) -> Wrote
+        ensures { λ r. ⌜ Does (beginList (style (now («line_break» .entry)) (now (indentation .entry))) (length (now (buf .entry))) self «break_line_at») self (now (buf .entry)) r (now (buf .exit)) ⌝ }
+    {
+        if !self.is_sound() {
+            return Wrote {
+                serializer: self,
+                answer: Put::UnsoundRecord,
+            };
+        }
+        let phase = self.phase;
+        match phase {
+            Phase::Beginning => self.first_list(buf),
+            Phase::Writing => {
+                if DEEPEST <= self.lists {
+                    return Wrote {
+                        serializer: self,
+                        answer: Put::TooDeep,
+                    };
+                }
+                self.inner(b"(", true, line_break, indentation, buf, break_line_at)
+            }
+            Phase::Finished => Wrote {
+                serializer: self,
+                answer: Put::WritingFinished,
+            },
+            Phase::Done => Wrote {
+                serializer: self,
+                answer: Put::WritingFinished,
+            },
+        }
+    }
+
+    // The record once the innermost list is closed, with its new place and counts.
+    fn closed(
+        self,
+        was: bool,
+        position: usize,
+        line_len: usize,
+        breaks: usize,
+        indents: usize,
+    ) -> Serializer
+        requires { ⌜ (0 < self .lists) × (self .lists ≤ 200) ⌝ }
+        ensures { λ r. ⌜ r ≡ closedWith self was position «line_len» breaks indents ⌝ }
+    {
+        let d = self.lists - 1;
+        let flags = self.line_broken;
+        let line_broken = flags_after(flags, d, was);
+        let phase = phase_after(d);
+        Serializer {
+            position,
+            phase,
+            lists: d,
+            line_broken,
+            list_beginning: false,
+            line_len,
+            spaces: self.spaces,
+            breaks,
+            indents,
+        }
+    }
+
+    // Closes the innermost list.
+    fn close(self, line_break: &[u8], indentation: &[u8], buf: &mut [u8]) -> Wrote
+        requires { ⌜ Small self × (0 < self .lists) ⌝ }
+        ensures { λ r. ⌜ Does (place (length (now (buf .entry))) self (close (style (now («line_break» .entry)) (now (indentation .entry))) self)) self (now (buf .entry)) r (now (buf .exit)) ⌝ }
+    {
+        let position = self.position;
+        let d = self.lists - 1;
+        let flags = self.line_broken;
+        if flags[d] {
+            match place(buf, position, line_break, d, indentation, b")") {
+                Spot::At(at, end) => Wrote {
+                    serializer: self.closed(
+                        true,
+                        end,
+                        d * indentation.len() + 1,
+                        self.breaks + 1,
+                        self.indents + d,
+                    ),
+                    answer: Put::At(at),
+                },
+                Spot::NoRoom => Wrote {
+                    serializer: self,
+                    answer: Put::NoRoom,
+                },
+            }
+        } else {
+            match place(buf, position, b"", 0, indentation, b")") {
+                Spot::At(at, end) => Wrote {
+                    serializer: self.closed(false, end, self.line_len + 1, self.breaks, self.indents),
+                    answer: Put::At(at),
+                },
+                Spot::NoRoom => Wrote {
+                    serializer: self,
+                    answer: Put::NoRoom,
+                },
+            }
+        }
+    }
+
+    // Ends the innermost list.
+    pub fn end_list(self, line_break: &[u8], indentation: &[u8], buf: &mut [u8]) -> Wrote
+        ensures { λ r. ⌜ Does (endList (style (now («line_break» .entry)) (now (indentation .entry))) (length (now (buf .entry))) self) self (now (buf .entry)) r (now (buf .exit)) ⌝ }
+    {
+        if !self.is_sound() {
+            return Wrote {
+                serializer: self,
+                answer: Put::UnsoundRecord,
+            };
+        }
+        let phase = self.phase;
+        match phase {
+            Phase::Beginning => Wrote {
+                serializer: self,
+                answer: Put::NoListToEnd,
+            },
+            Phase::Writing => self.close(line_break, indentation, buf),
+            Phase::Finished => Wrote {
+                serializer: self,
+                answer: Put::WritingFinished,
+            },
+            Phase::Done => Wrote {
+                serializer: self,
+                answer: Put::WritingFinished,
+            },
         }
     }
 }
