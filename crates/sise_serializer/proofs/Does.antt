@@ -1,12 +1,15 @@
 -- A call does as its definition says: the ways to get there. Each law ends in what the code has at a return.
 -- Assumes nothing.
 use Prim.Native.Nat.{ℕ, _+_, _-_, _*_, _≤_, _<_}
+use native.Mathlib.Nat.{add-zero}
 use mathlib.Core.Path.{_≡_, refl, sym, ap, _∙_}
 use mathlib.Core.Bool.{Bool, true, false, cond}
-use mathlib.Core.List.{List}
+use mathlib.Core.List.{List, [], append-nil}
 use lib.ListN.{length, getD}
 use borrow.Author.Tests.{lt-ltb, le-ltb}
-use Rattle.sise_serializer.specs.Serializer.{Answer, refused, answerAs, Does, isSound, Style, Piece, refuse, place, Gap, newLine, nothing, space, gapAt, laid, inner, innerAs, close, closeAs, beginIn, beginList, endIn, endList}
+use Rattle.sise_util.specs.Atom.{isAtom}
+use Rattle.sise_serializer.specs.Bytes.{repeat}
+use Rattle.sise_serializer.specs.Serializer.{Answer, refused, answerAs, Does, isSound, Style, Piece, refuse, place, Gap, newLine, nothing, space, gapAt, laid, inner, innerAs, close, closeAs, last, putIn, putAtom, beginIn, beginList, endIn, endList, finishIn, finishWriting}
 use Rattle.sise_serializer.specs.Parts.{Placed, closedWith, addedWith}
 use Rattle.sise_serializer.specs.declared.serializer.Phase.{Phase}
 use Rattle.sise_serializer.specs.declared.serializer.Serializer.{Serializer}
@@ -87,9 +90,35 @@ module _ (s : Style) (w : Serializer) {b : Bool} (flag : getD (w .«line_broken�
   pub close-full-does : r ≡ spot.NoRoom → Does (place (length before) w (close s w)) w before (record { serializer = w; answer = put.NoRoom }) now
   close-full-does k = rw close-is (full-does w (closeAs s w b) h k)
 
--- ---- the calls, by the test and the phase
+-- ---- the end of the text: a wished line break is one of one, another one of none
+
+once : (b : Bool) (l : List ℕ) → repeat (cond b 1 0) l ≡ cond b l []
+once true l = append-nil l
+once false l = refl
+
+pub counted : (b : Bool) (n : ℕ) → n + cond b 1 0 ≡ cond b (n + 1) n
+counted true n = refl
+counted false n = add-zero n
+
+pub last-placed : (b : Bool) (l : List ℕ) {n : ℕ} {before now : List ℕ} {at : ℕ} {r : Spot} → n ≡ cond b 1 0
+    → Placed before at (repeat n l) [] r now → Placed before at (cond b l []) [] r now
+last-placed b l e h = rw (← once b l, ← e) h
+
+-- ---- the calls, by their tests and the phase
 
 module _ (s : Style) (room : ℕ) (w : Serializer) where
+  pub put-unsound : (a : List ℕ) (t : ℕ) → isSound w ≡ false → putAtom s room w a t ≡ refuse 11 w
+  unfolding putAtom
+  put-unsound a t e = rw e
+
+  pub put-no-atom : (a : List ℕ) (t : ℕ) → isSound w ≡ true → isAtom a ≡ false → putAtom s room w a t ≡ refuse 17 w
+  unfolding putAtom
+  put-no-atom a t e f = rw (e, f)
+
+  pub put-sound : (a : List ℕ) (t : ℕ) {p : Phase} → isSound w ≡ true → isAtom a ≡ true → w .phase ≡ p → putAtom s room w a t ≡ putIn p s room w a t
+  unfolding putAtom
+  put-sound a t e f h = rw (e, f) (ap (λ (q : Phase). putIn q s room w a t) h)
+
   pub begin-unsound : (t : ℕ) → isSound w ≡ false → beginList s room w t ≡ refuse 11 w
   unfolding beginList
   begin-unsound t e = rw e
@@ -105,3 +134,11 @@ module _ (s : Style) (room : ℕ) (w : Serializer) where
   pub end-sound : {p : Phase} → isSound w ≡ true → w .phase ≡ p → endList s room w ≡ endIn p s room w
   unfolding endList
   end-sound e h = rw e (ap (λ (q : Phase). endIn q s room w) h)
+
+  pub finish-unsound : (wished : Bool) → isSound w ≡ false → finishWriting s room w wished ≡ refuse 11 w
+  unfolding finishWriting
+  finish-unsound wished e = rw e
+
+  pub finish-sound : (wished : Bool) {p : Phase} → isSound w ≡ true → w .phase ≡ p → finishWriting s room w wished ≡ finishIn p s room w wished
+  unfolding finishWriting
+  finish-sound wished e h = rw e (ap (λ (q : Phase). finishIn q s room w wished) h)

@@ -4,7 +4,7 @@ use Prim.Native.Nat.{ℕ, _*_, _/_, _≤_}
 use native.Mathlib.Nat.{mul-zero, lt-of-not-le, pos-of-ne-zero, le-div-iff-mul-le}
 use native.Mathlib.Omega.{arith}
 use mathlib.Core.Path.{_≡_, refl, sym, _∙_}
-use mathlib.Core.Bool.{Bool, true, false, false≢true, _&&_}
+use mathlib.Core.Bool.{Bool, true, false, false≢true, _&&_, cond}
 use lib.Dec.{leb}
 use borrow.Author.Tests.{le-leb, lt-leb, leb-true, leb-false}
 
@@ -36,3 +36,7 @@ pub fit-some : (m n s : ℕ) → (s ≡ 0 → ⊥) → leb n (m / s) ≡ leb (n 
 fit-some m n s h =
     let d = le-div-iff-mul-le {k = s} {x = n} {y = m} (pos-of-ne-zero h) in
     leb-same n (m / s) (n * s) m (d .0) (d .1)
+
+pub one-at-most : (b : Bool) → cond b 1 0 ≤ 1
+one-at-most true = omega arith
+one-at-most false = omega arith

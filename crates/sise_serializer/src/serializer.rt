@@ -4,7 +4,8 @@ use crate::buffer::Spot;
 use crate::buffer::place;
 use sise_util::check_atom;
 ghost use mathlib.Core.Path.{_≡_};
-ghost use mathlib.Core.Bool.{true};
+ghost use mathlib.Core.Bool.{true, cond};
+ghost use mathlib.Core.List.{[]};
 ghost use Prim.Native.Nat.{_≤_, _<_};
 ghost use lib.ListN.{length};
 ghost use Rattle.sise_serializer.specs.Parts.{Small, closedWith, addedWith};
@@ -106,6 +107,13 @@ fn flags_after(flags: [bool; 200], lists: usize, was_broken: bool) -> [bool; 200
     f
 }
 
+// How often the line break of finish is written.
+fn one_if(wished: bool) -> usize
+    ensures { λ r. ⌜ r ≡ cond wished 1 0 ⌝ }
+{
+    if wished { 1 } else { 0 }
+}
+
 impl Serializer {
     // A writer before the first item, at the start of its buffer.
     pub fn new() -> Serializer
@@ -149,6 +157,34 @@ impl Serializer {
             return false;
         }
         self.indents <= DEEPEST * (position + 1)
+    }
+
+    // An atom as the whole text. The line length stays 0, since no item follows.
+    fn first_atom(self, buf: &mut [u8], atom: &[u8]) -> Wrote
+        ensures { λ r. ⌜ Does (place (length (now (buf .entry))) self (firstAtom self (now (atom .entry)))) self (now (buf .entry)) r (now (buf .exit)) ⌝ }
+    {
+        let position = self.position;
+        let flags = self.line_broken;
+        match place(buf, position, b"", 0, b"", atom) {
+            Spot::At(at, end) => Wrote {
+                serializer: Serializer {
+                    position: end,
+                    phase: Phase::Finished,
+                    lists: 0,
+                    line_broken: flags,
+                    list_beginning: self.list_beginning,
+                    line_len: self.line_len,
+                    spaces: self.spaces,
+                    breaks: self.breaks,
+                    indents: self.indents,
+                },
+                answer: Put::At(at),
+            },
+            Spot::NoRoom => Wrote {
+                serializer: self,
+                answer: Put::NoRoom,
+            },
+        }
     }
 
     // The first item, a list.
@@ -305,6 +341,44 @@ impl Serializer {
         }
     }
 
+    // Puts an atom. In a list it goes on a new line if the line is at least `break_line_at` bytes long.
+    pub fn put_atom(
+        self,
+        line_break: &[u8],
+        indentation: &[u8],
+        buf: &mut [u8],
+        atom: &[u8],
+        break_line_at: u64,
+    ) -> Wrote
+        ensures { λ r. ⌜ Does (putAtom (style (now («line_break» .entry)) (now (indentation .entry))) (length (now (buf .entry))) self (now (atom .entry)) «break_line_at») self (now (buf .entry)) r (now (buf .exit)) ⌝ }
+    {
+        if !self.is_sound() {
+            return Wrote {
+                serializer: self,
+                answer: Put::UnsoundRecord,
+            };
+        }
+        if !check_atom(atom) {
+            return Wrote {
+                serializer: self,
+                answer: Put::InvalidAtom,
+            };
+        }
+        let phase = self.phase;
+        match phase {
+            Phase::Beginning => self.first_atom(buf, atom),
+            Phase::Writing => self.inner(atom, false, line_break, indentation, buf, break_line_at),
+            Phase::Finished => Wrote {
+                serializer: self,
+                answer: Put::WritingFinished,
+            },
+            Phase::Done => Wrote {
+                serializer: self,
+                answer: Put::WritingFinished,
+            },
+        }
+    }
+
     // Begins a list, on a new line if the line is at least `break_line_at` bytes long.
     pub fn begin_list(
         self,
@@ -433,6 +507,70 @@ impl Serializer {
                 serializer: self,
                 answer: Put::WritingFinished,
             },
+            Phase::Done => Wrote {
+                serializer: self,
+                answer: Put::WritingFinished,
+            },
+        }
+    }
+
+    // The end of the text, with a line break if wished.
+    fn last(self, line_break: &[u8], buf: &mut [u8], insert_line_break: bool) -> Wrote
+        requires { ⌜ Small self ⌝ }
+        ensures { λ r. ⌜ Does (place (length (now (buf .entry))) self (last (style (now («line_break» .entry)) []) self «insert_line_break»)) self (now (buf .entry)) r (now (buf .exit)) ⌝ }
+    {
+        let position = self.position;
+        let flags = self.line_broken;
+        let times = one_if(insert_line_break);
+        match place(buf, position, b"", times, line_break, b"") {
+            Spot::At(at, end) => Wrote {
+                serializer: Serializer {
+                    position: end,
+                    phase: Phase::Done,
+                    lists: self.lists,
+                    line_broken: flags,
+                    list_beginning: self.list_beginning,
+                    line_len: self.line_len,
+                    spaces: self.spaces,
+                    breaks: self.breaks + times,
+                    indents: self.indents,
+                },
+                answer: Put::At(at),
+            },
+            Spot::NoRoom => Wrote {
+                serializer: self,
+                answer: Put::NoRoom,
+            },
+        }
+    }
+
+    // Finishes the text. Only after that is it whole.
+    pub fn finish(
+        self,
+        line_break: &[u8],
+        indentation: &[u8],
+        buf: &mut [u8],
+        insert_line_break: bool,
+    ) -> Wrote
+        ensures { λ r. ⌜ Does (finishWriting (style (now («line_break» .entry)) (now (indentation .entry))) (length (now (buf .entry))) self «insert_line_break») self (now (buf .entry)) r (now (buf .exit)) ⌝ }
+    {
+        if !self.is_sound() {
+            return Wrote {
+                serializer: self,
+                answer: Put::UnsoundRecord,
+            };
+        }
+        let phase = self.phase;
+        match phase {
+            Phase::Beginning => Wrote {
+                serializer: self,
+                answer: Put::WritingNotFinished,
+            },
+            Phase::Writing => Wrote {
+                serializer: self,
+                answer: Put::WritingNotFinished,
+            },
+            Phase::Finished => self.last(line_break, buf, insert_line_break),
             Phase::Done => Wrote {
                 serializer: self,
                 answer: Put::WritingFinished,
