@@ -1,4 +1,4 @@
--- Laws of `pasted` and `repeat`.
+-- Bytes pasted one after another are pasted at once; and how long repeated bytes are.
 -- Assumes nothing.
 use Prim.Native.Nat.{ℕ, zero, suc, _+_, _*_, _≤_}
 use native.Mathlib.Nat.{zero-mul, suc-mul, add-assoc}
@@ -22,7 +22,7 @@ pub pasted-none : (l : List ℕ) (at : ℕ) → pasted l at [] ≡ l
 unfolding pasted
 pasted-none l at = sym (paste-zero l at [])
 
--- all of b, pasted
+-- the standard library's paste, of all of b
 pub pasted-paste : (l : List ℕ) (at : ℕ) (b : List ℕ) → paste l at b (length b) ≡ pasted l at b
 unfolding pasted
 pasted-paste l at b = rw (take-length b)
@@ -31,7 +31,7 @@ module _ (l : List ℕ) (at : ℕ) (a : List ℕ) (room : at + length a ≤ leng
   head-length : length (take at l ++ a) ≡ at + length a
   head-length = simp (length-append, length-take) (omega arith)
 
-  -- a and then b is a ++ b at once
+  -- b right behind a
   pub pasted-more : (b : List ℕ) → pasted (pasted l at a) (at + length a) b ≡ pasted l at (a ++ b)
   unfolding pasted
   pasted-more b =
@@ -40,7 +40,7 @@ module _ (l : List ℕ) (at : ℕ) (a : List ℕ) (room : at + length a ≤ leng
       rw (take-at p q (at + length a) head-length, ← drop-drop (length b) (at + length a) (p ++ q), drop-at p q (at + length a) head-length, drop-drop, length-append, ← add-assoc)
       (simp append-assoc)
 
--- one more copy of b after k of them
+-- b right behind k times b
 pub pasted-again : (l : List ℕ) (at k : ℕ) (b : List ℕ) → at + length (repeat k b) ≤ length l
     → pasted (pasted l at (repeat k b)) (at + length (repeat k b)) b ≡ pasted l at (repeat (k + 1) b)
 pasted-again l at k b h = rw (pasted-more l at (repeat k b) h b, repeat-more, add-one)
@@ -48,13 +48,13 @@ pasted-again l at k b h = rw (pasted-more l at (repeat k b) h b, repeat-more, ad
 pub repeat-length-more : (k : ℕ) (b : List ℕ) → length (repeat (k + 1) b) ≡ length (repeat k b) + length b
 repeat-length-more k b = rw (add-one, ← repeat-more) (length-append (repeat k b) b)
 
--- three lists, one after the other
+-- c right behind b right behind a
 pub pasted-three : (l : List ℕ) (at : ℕ) (a b c : List ℕ) → at + (length a + length b) + length c ≤ length l
     → pasted (pasted (pasted l at a) (at + length a) b) (at + length a + length b) c ≡ pasted l at (a ++ b ++ c)
 pasted-three l at a b c h =
     rw (pasted-more l at a (omega arith) b, add-assoc, ← length-append a b)
     (pasted-more l at (a ++ b) (rw (length-append a b) (omega arith)) c)
 
--- a lead and n indentations
+-- layout: a lead and n indentations
 pub layout-length : (a : List ℕ) (n : ℕ) (b : List ℕ) → length (a ++ repeat n b) ≡ length a + n * length b
 layout-length a n b = rw (length-append a (repeat n b), repeat-length n b)

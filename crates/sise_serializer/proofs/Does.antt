@@ -1,4 +1,4 @@
--- A call does as its definition says: the ways to get there. Each law ends in what the code has at a return.
+-- From what the code knows at a return to the promise of its contract, `Does`: for refusals, for pieces with and without room, and for each call.
 -- Assumes nothing.
 use Prim.Native.Nat.{ℕ, _+_, _-_, _*_, _≤_, _<_}
 use native.Mathlib.Nat.{add-zero}
@@ -10,7 +10,7 @@ use borrow.Author.Tests.{lt-ltb, le-ltb}
 use Rattle.sise_util.specs.Atom.{isAtom}
 use Rattle.sise_serializer.specs.Bytes.{repeat}
 use Rattle.sise_serializer.specs.Serializer.{Answer, refused, answerAs, Does, isSound, Style, Piece, refuse, place, Gap, newLine, nothing, space, gapAt, laid, inner, innerAs, close, closeAs, last, putIn, putAtom, beginIn, beginList, endIn, endList, finishIn, finishWriting}
-use Rattle.sise_serializer.specs.Parts.{Placed, closedWith, addedWith}
+use Rattle.sise_serializer.specs.Parts.{Placed, closedWith, itemWith}
 use Rattle.sise_serializer.specs.declared.serializer.Phase.{Phase}
 use Rattle.sise_serializer.specs.declared.serializer.Serializer.{Serializer}
 use Rattle.sise_serializer.specs.declared.buffer.Spot.{Spot}
@@ -22,13 +22,13 @@ use Rattle.sise_serializer.proofs.Spots.{found, not-found}
 
 -- ---- refusals and pieces
 
--- a refusal, with the number of its answer
+-- a refusal changes nothing
 pub refused-does : (w : Serializer) (before : List ℕ) (n : ℕ) (a : Put) → answerAs a ≡ refused n
     → Does (refuse n w) w before (record { serializer = w; answer = a }) before
 refused-does w before n a e = record { serializer = refl; answer = e; buffer = sym (pasted-none before (w .position)) }
 
 module _ (w : Serializer) (p : Piece) {before : List ℕ} {r : Spot} {now : List ℕ} (h : Placed before (w .position) (p .layout) (p .token) r now) where
-  -- a piece that found its spot
+  -- a piece with room
   pub placed-does : {o e : ℕ} {v : Serializer} → r ≡ spot.At o e → (e ≡ w .position + length (p .layout) + length (p .token) → v ≡ p .after)
       → Does (place (length before) w p) w before (record { serializer = v; answer = put.At o }) now
   unfolding place
@@ -46,7 +46,7 @@ module _ (w : Serializer) (p : Piece) {before : List ℕ} {r : Spot} {now : List
 
 -- ---- an item in a list
 
--- which gap the code's tests find
+-- the gap, from the two tests of the code
 module _ (w : Serializer) (t : ℕ) where
   pub gap-new-line : t ≤ w .«line_len» → gapAt w t ≡ newLine
   gap-new-line h = simp (le-ltb _ _ h)
@@ -57,23 +57,14 @@ module _ (w : Serializer) (t : ℕ) where
   pub gap-space : w .«line_len» < t → w .«list_beginning» ≡ false → gapAt w t ≡ space
   gap-space h b = simp (lt-ltb _ _ h, b)
 
-module _ (s : Style) (w : Serializer) (token : List ℕ) (isList : Bool) (t : ℕ) {g : Gap} (gap : gapAt w t ≡ g)
-    {before : List ℕ} {r : Spot} {now : List ℕ} (h : Placed before (w .position) ((laid g s w) .bytes) token r now) where
-  inner-is : inner s w token isList t ≡ innerAs s w token isList g
-  unfolding inner
-  inner-is = ap (innerAs s w token isList) gap
+-- an item behind that gap
+pub inner-is : (s : Style) (w : Serializer) (token : List ℕ) (isList : Bool) (t : ℕ) {g : Gap} → gapAt w t ≡ g
+    → inner s w token isList t
+    ≡ itemWith w token isList ((laid g s w) .bytes) ((laid g s w) .flags) ((laid g s w) .line) ((laid g s w) .spaces) ((laid g s w) .breaks) ((laid g s w) .indents)
+unfolding inner innerAs itemWith
+inner-is s w token isList t gap = ap (innerAs s w token isList) gap
 
-  pub added-does : {o e : ℕ} {v : Serializer} → r ≡ spot.At o e
-      → v ≡ addedWith w isList ((laid g s w) .flags) e ((laid g s w) .line + length token) ((laid g s w) .spaces) ((laid g s w) .breaks) ((laid g s w) .indents)
-      → Does (place (length before) w (inner s w token isList t)) w before (record { serializer = v; answer = put.At o }) now
-  unfolding innerAs
-  added-does k q = rw inner-is (placed-does w (innerAs s w token isList g) h k (λ x. rw x at q))
-
-  pub inner-full-does : r ≡ spot.NoRoom → Does (place (length before) w (inner s w token isList t)) w before (record { serializer = w; answer = put.NoRoom }) now
-  unfolding innerAs
-  inner-full-does k = rw inner-is (full-does w (innerAs s w token isList g) h k)
-
--- ---- the close of a list, which is broken or not
+-- ---- the close of a list, by its flag
 
 module _ (s : Style) (w : Serializer) {b : Bool} (flag : getD (w .«line_broken») (w .lists - 1) false ≡ b)
     {before : List ℕ} {r : Spot} {now : List ℕ} (h : Placed before (w .position) ((closeAs s w b) .layout) ((closeAs s w b) .token) r now) where

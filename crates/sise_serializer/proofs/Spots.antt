@@ -1,4 +1,4 @@
--- Laws of `spotOf`: when a token has a spot, and which.
+-- What follows from a token that has a spot, and from one that has none.
 -- Assumes nothing.
 use Prim.Native.Nat.{ℕ, _+_, _*_, _≤_, _<_, min}
 use native.Mathlib.Omega.{arith}
@@ -16,7 +16,7 @@ use Rattle.sise_serializer.proofs.Bytes.{layout-length}
 use Rattle.sise_serializer.proofs.Tests.{split}
 use Rattle.sise_serializer.specs.declared.buffer.Spot.the-variants.{At, NoRoom}
 
--- what a token that has a spot is known by
+-- what is known of a token with a spot
 pub record Found (room at layout token o e : ℕ) : Type 0 where
   pub in-room : at + layout + token ≤ room
   pub in-limit : at + layout + token ≤ limit
@@ -53,7 +53,7 @@ module _ (room at layout token : ℕ) where
       let q : NoRoom ≡ At (at + layout) (at + layout + token) = rw t at h in cc)
       (λ t. t)
 
--- the indentations of what was placed are few bytes
+-- indentations that had room are at most the limit
 pub indents-small : (a : List ℕ) (n : ℕ) (b : List ℕ) {before now token : List ℕ} {at o e : ℕ} {r : Spot}
     → Placed before at (a ++ repeat n b) token r now → r ≡ At o e → n * length b ≤ limit
 indents-small a n b {before} {now} {token} {at} h t =

@@ -7,7 +7,7 @@ use mathlib.Core.List.{List, _++_}
 use lib.Dec.{leb}
 use lib.ListN.{length, set}
 use Rattle.sise_serializer.specs.Bytes.{pasted}
-use Rattle.sise_serializer.specs.Serializer.{limit, deepest, phaseAfter, flagsAfter}
+use Rattle.sise_serializer.specs.Serializer.{limit, deepest, Piece, phaseAfter, flagsAfter}
 use Rattle.sise_serializer.specs.declared.serializer.Phase.the-variants.{Writing}
 use Rattle.sise_serializer.specs.declared.serializer.Serializer.{Serializer}
 use Rattle.sise_serializer.specs.declared.buffer.Spot.{Spot}
@@ -63,4 +63,12 @@ addedWith w isList flags position line spaces breaks indents = record {
   spaces = spaces;
   breaks = breaks;
   indents = indents;
+}
+
+-- an item in a list, behind its layout, which leaves `line` bytes in the line; flags and counts are given
+unfoldable pub itemWith : Serializer → List ℕ → Bool → List ℕ → List Bool → ℕ → ℕ → ℕ → ℕ → Piece
+itemWith w token isList layout flags line spaces breaks indents = record {
+  layout = layout;
+  token = token;
+  after = addedWith w isList flags (w .position + length layout + length token) (line + length token) spaces breaks indents;
 }

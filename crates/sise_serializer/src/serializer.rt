@@ -5,11 +5,12 @@ use crate::buffer::place;
 use sise_util::check_atom;
 ghost use mathlib.Core.Path.{_≡_};
 ghost use mathlib.Core.Bool.{true, cond};
-ghost use mathlib.Core.List.{[]};
-ghost use Prim.Native.Nat.{_≤_, _<_};
+ghost use mathlib.Core.List.{[], _++_};
+ghost use Prim.Native.Nat.{_+_, _*_, _≤_, _<_};
 ghost use lib.ListN.{length};
-ghost use Rattle.sise_serializer.specs.Parts.{Small, closedWith, addedWith};
-ghost use Rattle.sise_serializer.specs.Serializer.{freshSerializer, style, listsFit, lastBreak, isSound, phaseAfter, flagsAfter, Does, place, firstAtom, firstList, inner, close, last, putAtom, beginList, endList, finishWriting};
+ghost use Rattle.sise_serializer.specs.Bytes.{repeat};
+ghost use Rattle.sise_serializer.specs.Parts.{Small, closedWith, addedWith, itemWith};
+ghost use Rattle.sise_serializer.specs.Serializer.{freshSerializer, style, limit, listsFit, lastBreak, isSound, phaseAfter, flagsAfter, Does, place, firstAtom, firstList, inner, close, last, putAtom, beginList, endList, finishWriting};
 
 // The most open lists.
 const DEEPEST: usize = 200;
@@ -132,7 +133,7 @@ impl Serializer {
         }
     }
 
-    // Whether the record is one that the calls can leave.
+    // Whether the counts lie in the bounds that every call keeps, so that no sum of a call wraps.
     fn is_sound(self) -> bool
         ensures { λ r. ⌜ r ≡ isSound self ⌝ }
     {
@@ -187,7 +188,7 @@ impl Serializer {
         }
     }
 
-    // The first item, a list.
+    // A list as the first item.
     fn first_list(self, buf: &mut [u8]) -> Wrote
         ensures { λ r. ⌜ Does (place (length (now (buf .entry))) self (firstList self)) self (now (buf .entry)) r (now (buf .exit)) ⌝ }
     {
@@ -218,7 +219,7 @@ impl Serializer {
         }
     }
 
-    // The record with an item more, with its new flags, place and counts.
+    // The record behind an item in a list. A new list has no broken line yet.
     fn added(
         self,
         is_list: bool,
@@ -261,7 +262,45 @@ impl Serializer {
         }
     }
 
-    // An item in a list.
+    // An item in a list, behind `lead` and `times` indentations. Its line had `line` bytes before the indentations.
+    fn item(
+        self,
+        token: &[u8],
+        is_list: bool,
+        lead: &[u8],
+        times: usize,
+        indentation: &[u8],
+        buf: &mut [u8],
+        flags: [bool; 200],
+        line: usize,
+        spaces: usize,
+        breaks: usize,
+    ) -> Wrote
+        requires { ⌜ (Small self × (line ≤ limit + 1) × (times ≤ 200)) × («is_list» ≡ true → self .lists < 200) ⌝ }
+        ensures { λ r. ⌜ Does (place (length (now (buf .entry))) self (itemWith self (now (token .entry)) «is_list» (now (lead .entry) ++ repeat times (now (indentation .entry))) flags (line + times * length (now (indentation .entry))) spaces breaks (self .indents + times))) self (now (buf .entry)) r (now (buf .exit)) ⌝ }
+    {
+        let position = self.position;
+        match place(buf, position, lead, times, indentation, token) {
+            Spot::At(at, end) => Wrote {
+                serializer: self.added(
+                    is_list,
+                    flags,
+                    end,
+                    line + times * indentation.len() + token.len(),
+                    spaces,
+                    breaks,
+                    self.indents + times,
+                ),
+                answer: Put::At(at),
+            },
+            Spot::NoRoom => Wrote {
+                serializer: self,
+                answer: Put::NoRoom,
+            },
+        }
+    }
+
+    // An item in a list, behind the gap that the threshold asks for.
     fn inner(
         self,
         token: &[u8],
@@ -274,70 +313,51 @@ impl Serializer {
         requires { ⌜ (Small self × (0 < self .lists)) × («is_list» ≡ true → self .lists < 200) ⌝ }
         ensures { λ r. ⌜ Does (place (length (now (buf .entry))) self (inner (style (now («line_break» .entry)) (now (indentation .entry))) self (now (token .entry)) «is_list» «break_line_at»)) self (now (buf .entry)) r (now (buf .exit)) ⌝ }
     {
-        let position = self.position;
-        let d = self.lists;
+        let lists = self.lists;
         let mut flags = self.line_broken;
-        let line = self.line_len as u64;
-        if break_line_at <= line {
-            match place(buf, position, line_break, d, indentation, token) {
-                Spot::At(at, end) => {
-                    flags[d - 1] = true;
-                    Wrote {
-                        serializer: self.added(
-                            is_list,
-                            flags,
-                            end,
-                            d * indentation.len() + token.len(),
-                            self.spaces,
-                            self.breaks + 1,
-                            self.indents + d,
-                        ),
-                        answer: Put::At(at),
-                    }
-                }
-                Spot::NoRoom => Wrote {
-                    serializer: self,
-                    answer: Put::NoRoom,
-                },
-            }
+        let line = self.line_len;
+        let spaces = self.spaces;
+        let breaks = self.breaks;
+        if break_line_at <= line as u64 {
+            flags[lists - 1] = true;
+            self.item(
+                token,
+                is_list,
+                line_break,
+                lists,
+                indentation,
+                buf,
+                flags,
+                0,
+                spaces,
+                breaks + 1,
+            )
         } else if self.list_beginning {
-            match place(buf, position, b"", 0, b"", token) {
-                Spot::At(at, end) => Wrote {
-                    serializer: self.added(
-                        is_list,
-                        flags,
-                        end,
-                        self.line_len + token.len(),
-                        self.spaces,
-                        self.breaks,
-                        self.indents,
-                    ),
-                    answer: Put::At(at),
-                },
-                Spot::NoRoom => Wrote {
-                    serializer: self,
-                    answer: Put::NoRoom,
-                },
-            }
+            self.item(
+                token,
+                is_list,
+                b"",
+                0,
+                indentation,
+                buf,
+                flags,
+                line,
+                spaces,
+                breaks,
+            )
         } else {
-            match place(buf, position, b" ", 0, b"", token) {
-                Spot::At(at, end) => Wrote {
-                    serializer: self.added(
-                        is_list,
-                        flags,
-                        end,
-                        self.line_len + 1 + token.len(),
-                        self.spaces + 1,
-                        self.breaks,
-                        self.indents,
-                    ),
-                    answer: Put::At(at),
-                },
-                Spot::NoRoom => Wrote {
-                    serializer: self,
-                    answer: Put::NoRoom,
-                },
-            }
+            self.item(
+                token,
+                is_list,
+                b" ",
+                0,
+                indentation,
+                buf,
+                flags,
+                line + 1,
+                spaces + 1,
+                breaks,
+            )
         }
     }
 
@@ -379,7 +399,7 @@ impl Serializer {
         }
     }
 
-    // Begins a list, on a new line if the line is at least `break_line_at` bytes long.
+    // Begins a list. Inside another it goes on a new line if the line is at least `break_line_at` bytes long.
     pub fn begin_list(
         self,
         line_break: &[u8],
@@ -418,21 +438,21 @@ impl Serializer {
         }
     }
 
-    // The record once the innermost list is closed, with its new place and counts.
+    // The record behind the `)` of the innermost list.
     fn closed(
         self,
-        was: bool,
+        was_broken: bool,
         position: usize,
         line_len: usize,
         breaks: usize,
         indents: usize,
     ) -> Serializer
         requires { ⌜ (0 < self .lists) × (self .lists ≤ 200) ⌝ }
-        ensures { λ r. ⌜ r ≡ closedWith self was position «line_len» breaks indents ⌝ }
+        ensures { λ r. ⌜ r ≡ closedWith self «was_broken» position «line_len» breaks indents ⌝ }
     {
         let d = self.lists - 1;
         let flags = self.line_broken;
-        let line_broken = flags_after(flags, d, was);
+        let line_broken = flags_after(flags, d, was_broken);
         let phase = phase_after(d);
         Serializer {
             position,
@@ -447,7 +467,7 @@ impl Serializer {
         }
     }
 
-    // Closes the innermost list.
+    // The `)` of the innermost list, on a line of its own if a line was broken in it.
     fn close(self, line_break: &[u8], indentation: &[u8], buf: &mut [u8]) -> Wrote
         requires { ⌜ Small self × (0 < self .lists) ⌝ }
         ensures { λ r. ⌜ Does (place (length (now (buf .entry))) self (close (style (now («line_break» .entry)) (now (indentation .entry))) self)) self (now (buf .entry)) r (now (buf .exit)) ⌝ }
@@ -475,7 +495,13 @@ impl Serializer {
         } else {
             match place(buf, position, b"", 0, indentation, b")") {
                 Spot::At(at, end) => Wrote {
-                    serializer: self.closed(false, end, self.line_len + 1, self.breaks, self.indents),
+                    serializer: self.closed(
+                        false,
+                        end,
+                        self.line_len + 1,
+                        self.breaks,
+                        self.indents,
+                    ),
                     answer: Put::At(at),
                 },
                 Spot::NoRoom => Wrote {
@@ -486,7 +512,7 @@ impl Serializer {
         }
     }
 
-    // Ends the innermost list.
+    // Ends the innermost list that is open.
     pub fn end_list(self, line_break: &[u8], indentation: &[u8], buf: &mut [u8]) -> Wrote
         ensures { λ r. ⌜ Does (endList (style (now («line_break» .entry)) (now (indentation .entry))) (length (now (buf .entry))) self) self (now (buf .entry)) r (now (buf .exit)) ⌝ }
     {

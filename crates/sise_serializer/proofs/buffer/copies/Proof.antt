@@ -1,5 +1,5 @@
--- `wr::copies` meets its contract. The loop's invariant: k copies of `src` stand in `buf` from `at` on, and `to` is where they end.
--- The measure is the number of copies left. Assumes nothing.
+-- Before each turn the buffer has k copies of src pasted at `at`, which end at `to`; each turn leaves one copy less to go.
+-- Assumes nothing.
 use Prim.Native.Nat.{_+_, _-_, _≤_}
 use native.Mathlib.Nat.{mul-le-mul-right, suc-mul}
 use native.Mathlib.Omega.{arith}
@@ -21,7 +21,7 @@ abbrev μ-loop : tie.MeasureT-loop
 loop-holds : tie.Need-loop-holds Inv-loop μ-loop
 loop-holds c = (sym (pasted-none (c .before .before .args .buf .now) (c .before .before .args .at)), omega arith, omega arith, refl)
 
--- one more copy has room
+-- the next copy has room too
 room : (c : tie.In-loop Inv-loop μ-loop) → c .before .loop .to + length (c .before .before .before .before .args .src .now) ≤ length (c .before .loop .buf)
 room c =
     let l = c .before .loop in

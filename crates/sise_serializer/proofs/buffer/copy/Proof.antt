@@ -1,5 +1,5 @@
--- `wr::copy` meets its contract. The loop's invariant: the first i bytes of `src` stand in `buf` from `at` on, and `buf` is as long as it was.
--- The measure is what is left of `src`. Assumes nothing.
+-- Before each turn the buffer, of the same length, has the first i bytes of src pasted at `at`; each turn leaves one byte less to go.
+-- Assumes nothing.
 use Prim.Native.Nat.{_-_, _≤_}
 use native.Mathlib.Numerals.{add-one}
 use native.Mathlib.Omega.{arith}

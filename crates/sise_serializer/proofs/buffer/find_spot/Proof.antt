@@ -1,4 +1,4 @@
--- `wr::find_spot` meets its contract: each test says whether the whole fits, and where it does no sum or product wraps.
+-- Each test that fails bounds the sum from below, and the last one decides; past all of them no sum or product wraps.
 -- Assumes nothing.
 use native.Mathlib.Omega.{arith}
 use mathlib.Core.Path.{sym, _∙_}

@@ -1,4 +1,4 @@
--- `wr::has_room` meets its contract: a quotient decides whether the product fits.
+-- Without bytes everything fits; else n strings of s bytes fit into m bytes exactly if n is at most m / s.
 -- Assumes nothing.
 use mathlib.Core.Path.{sym}
 use borrow.Author.Needs.{needs}

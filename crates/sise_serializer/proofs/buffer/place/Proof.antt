@@ -1,4 +1,4 @@
--- `wr::place` meets its contract: it writes where there is a spot.
+-- A found spot leaves room for all three, so `write` may be called; without a spot the buffer is not touched.
 -- Assumes nothing.
 use mathlib.Core.Path.{sym, _∙_}
 use borrow.Author.Needs.{needs}

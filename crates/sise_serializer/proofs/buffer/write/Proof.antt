@@ -1,4 +1,4 @@
--- `wr::write` meets its contract: three writings, one after the other, are one.
+-- What is written behind lead is written behind it in one: three pastings in a row are one pasting.
 -- Assumes nothing.
 use native.Mathlib.Omega.{arith}
 use borrow.Author.Needs.{needs}

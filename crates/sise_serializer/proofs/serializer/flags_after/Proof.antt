@@ -1,4 +1,4 @@
--- `wr::closed_flags` meets its contract. A parent that is left as it was is set to what it was.
+-- With no list left the closed flag is cleared and no more; else the parent is set, or set to what it was.
 -- Assumes nothing.
 use mathlib.Core.Path.{sym}
 use mathlib.Core.Bool.{false}

@@ -1,4 +1,4 @@
--- `wr::opens_right` meets its contract.
+-- In each phase, the test of the definition.
 -- Assumes nothing.
 use borrow.Author.Needs.{needs}
 use Rattle.sise_serializer.proofs.serializer.lists_fit.Statement.{statement}

@@ -1,4 +1,4 @@
--- `wr::phase_after` meets its contract.
+-- The test of zero decides, as in the definition.
 -- Assumes nothing.
 use borrow.Author.Tests.{eq-eqb, ne-eqb}
 use Rattle.sise_serializer.specs.Serializer.{phaseAfter}

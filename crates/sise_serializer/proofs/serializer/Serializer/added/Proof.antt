@@ -1,4 +1,4 @@
--- `wr::Serializer::added` meets its contract.
+-- The two literals are the two cases of `cond` in the definition.
 -- Assumes nothing.
 use native.Mathlib.Omega.{arith}
 use Rattle.sise_serializer.proofs.serializer.Serializer.added.Statement.{statement}

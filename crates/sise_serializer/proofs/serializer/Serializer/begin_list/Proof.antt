@@ -1,4 +1,4 @@
--- `wr::Serializer::begin_list` meets its contract: each return follows the test of the record and the phase.
+-- Each return is the definition's answer at the test of the record, at the phase and at the depth.
 -- Assumes nothing.
 use mathlib.Core.Path.{_≡_, refl, sym, _∙_}
 use mathlib.Core.Bool.{true}
@@ -19,7 +19,7 @@ returns c =
     let a = c .before .before .before .before .before .args in
     rw (begin-unsound _ _ (a .self) _ (sym (c .before .is-sound .ensures) ∙ not-true _ (c .if1 .taken))) (refused-does (a .self) (a .buf .now) 11 _ refl)
 
--- the way past the test
+-- past the test of the record
 is-sound : (c : tie.Else1) → isSound (c .before .before .before .before .before .args .self) ≡ true
 is-sound c = sym (c .before .is-sound .ensures) ∙ not-false _ (c .if1 .left)
 

@@ -1,4 +1,4 @@
--- `wr::Serializer::close` meets its contract: each return is what `Does` says of a piece with or without room.
+-- The flag of the innermost list picks the case of the definition; there the close stands in the buffer or has no room.
 -- Assumes nothing.
 use Prim.Native.Nat.{_-_, _*_, _≤_}
 use native.Mathlib.Omega.{arith}
@@ -32,7 +32,7 @@ place-requires c κs = search needs
 enum-known-at : tie.Need-enum-known-at
 enum-known-at c = search needs
 
--- the indentations that were placed are few bytes
+-- what found room is few bytes
 few : (c : tie.After-at) → (start (c .before .before .before .before .before .before .before .before) .args .self .lists - 1) * length (start (c .before .before .before .before .before .before .before .before) .args .indentation .now) ≤ limit
 few c =
     let a = start (c .before .before .before .before .before .before .before .before) .args in

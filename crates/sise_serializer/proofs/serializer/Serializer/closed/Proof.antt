@@ -1,4 +1,4 @@
--- `wr::Serializer::closed` meets its contract.
+-- Flags and phase are what the two functions answer.
 -- Assumes nothing.
 use borrow.Author.Needs.{needs}
 use Rattle.sise_serializer.proofs.serializer.Serializer.closed.Statement.{statement}

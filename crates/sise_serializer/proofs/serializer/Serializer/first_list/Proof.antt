@@ -1,4 +1,4 @@
--- `wr::Serializer::first_list` meets its contract: each return is what `Does` says of a piece with or without room.
+-- The parenthesis stands at the position, or has no room and leaves all as it was.
 -- Assumes nothing.
 use native.Mathlib.Nat.{add-zero}
 use borrow.Author.Needs.{needs}

@@ -1,4 +1,4 @@
--- `wr::Serializer::is_sound` meets its contract: each return follows the tests on its way.
+-- A test that fails makes the record unsound; past the others the last test decides.
 -- Assumes nothing.
 use native.Mathlib.Omega.{arith}
 use mathlib.Core.Path.{_≡_, sym, _∙_}
