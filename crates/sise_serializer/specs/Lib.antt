@@ -1,3 +1,4 @@
 pub mod Bytes
 pub mod Serializer
+pub mod Parts
 pub mod Examples

@@ -1,0 +1,60 @@
+-- Bytes pasted one after another are pasted at once; and how long repeated bytes are.
+-- Assumes nothing.
+use Prim.Native.Nat.{ℕ, zero, suc, _+_, _*_, _≤_}
+use native.Mathlib.Nat.{zero-mul, suc-mul, add-assoc}
+use native.Mathlib.Numerals.{add-one}
+use native.Mathlib.Omega.{arith}
+use mathlib.Core.Path.{_≡_, sym, ap, _∙_}
+use mathlib.Core.List.{List, [], _++_, append-assoc, append-nil}
+use lib.ListN.{length, take, drop, length-append, length-take}
+use lib.Seq.{paste, paste-zero, take-length, take-at, drop-at, drop-drop}
+use Rattle.sise_serializer.specs.Bytes.{pasted, repeat}
+
+pub repeat-length : (n : ℕ) (b : List ℕ) → length (repeat n b) ≡ n * length b
+repeat-length zero b = sym (zero-mul (length b))
+repeat-length (suc n) b = length-append b (repeat n b) ∙ omega (arith, repeat-length n b, suc-mul n (length b))
+
+pub repeat-more : (n : ℕ) (b : List ℕ) → repeat n b ++ b ≡ repeat (suc n) b
+repeat-more zero b = sym (append-nil b)
+repeat-more (suc n) b = append-assoc b (repeat n b) b ∙ ap (λ (l : List ℕ). b ++ l) (repeat-more n b)
+
+pub pasted-none : (l : List ℕ) (at : ℕ) → pasted l at [] ≡ l
+unfolding pasted
+pasted-none l at = sym (paste-zero l at [])
+
+-- the standard library's paste, of all of b
+pub pasted-paste : (l : List ℕ) (at : ℕ) (b : List ℕ) → paste l at b (length b) ≡ pasted l at b
+unfolding pasted
+pasted-paste l at b = rw (take-length b)
+
+module _ (l : List ℕ) (at : ℕ) (a : List ℕ) (room : at + length a ≤ length l) where
+  head-length : length (take at l ++ a) ≡ at + length a
+  head-length = simp (length-append, length-take) (omega arith)
+
+  -- b right behind a
+  pub pasted-more : (b : List ℕ) → pasted (pasted l at a) (at + length a) b ≡ pasted l at (a ++ b)
+  unfolding pasted
+  pasted-more b =
+      let p = take at l ++ a in
+      let q = drop (at + length a) l in
+      rw (take-at p q (at + length a) head-length, ← drop-drop (length b) (at + length a) (p ++ q), drop-at p q (at + length a) head-length, drop-drop, length-append, ← add-assoc)
+      (simp append-assoc)
+
+-- b right behind k times b
+pub pasted-again : (l : List ℕ) (at k : ℕ) (b : List ℕ) → at + length (repeat k b) ≤ length l
+    → pasted (pasted l at (repeat k b)) (at + length (repeat k b)) b ≡ pasted l at (repeat (k + 1) b)
+pasted-again l at k b h = rw (pasted-more l at (repeat k b) h b, repeat-more, add-one)
+
+pub repeat-length-more : (k : ℕ) (b : List ℕ) → length (repeat (k + 1) b) ≡ length (repeat k b) + length b
+repeat-length-more k b = rw (add-one, ← repeat-more) (length-append (repeat k b) b)
+
+-- c right behind b right behind a
+pub pasted-three : (l : List ℕ) (at : ℕ) (a b c : List ℕ) → at + (length a + length b) + length c ≤ length l
+    → pasted (pasted (pasted l at a) (at + length a) b) (at + length a + length b) c ≡ pasted l at (a ++ b ++ c)
+pasted-three l at a b c h =
+    rw (pasted-more l at a (omega arith) b, add-assoc, ← length-append a b)
+    (pasted-more l at (a ++ b) (rw (length-append a b) (omega arith)) c)
+
+-- layout: a lead and n indentations
+pub layout-length : (a : List ℕ) (n : ℕ) (b : List ℕ) → length (a ++ repeat n b) ≡ length a + n * length b
+layout-length a n b = rw (length-append a (repeat n b), repeat-length n b)

@@ -1,0 +1,42 @@
+-- Tests on numbers and what their answers say.
+-- Assumes nothing.
+use Prim.Native.Nat.{ℕ, _*_, _/_, _≤_}
+use native.Mathlib.Nat.{mul-zero, lt-of-not-le, pos-of-ne-zero, le-div-iff-mul-le}
+use native.Mathlib.Omega.{arith}
+use mathlib.Core.Path.{_≡_, refl, sym, _∙_}
+use mathlib.Core.Bool.{Bool, true, false, false≢true, _&&_, cond}
+use lib.Dec.{leb}
+use borrow.Author.Tests.{le-leb, lt-leb, leb-true, leb-false}
+
+-- by the two answers of a test, each kept as an equation
+pub split : {A : Type 0} (x : Bool) → (x ≡ true → A) → (x ≡ false → A) → A
+split true f g = f refl
+split false f g = g refl
+
+pub and-left : (a b : Bool) → a && b ≡ true → a ≡ true
+and-left true b h = refl
+and-left false b h = h
+
+pub and-right : (a b : Bool) → a && b ≡ true → b ≡ true
+and-right true b h = h
+and-right false b h = absurd (false≢true h)
+
+-- two tests with the same answer
+pub leb-same : (a b c d : ℕ) → (a ≤ b → c ≤ d) → (c ≤ d → a ≤ b) → leb a b ≡ leb c d
+leb-same a b c d f g =
+    split (leb a b)
+    (λ e. e ∙ sym (le-leb c d (f (leb-true a b e))))
+    (λ e. let h = leb-false a b e in e ∙ sym (lt-leb c d (lt-of-not-le (λ k. let i = g k in omega arith))))
+
+-- n strings of s bytes in m bytes: by the quotient
+pub fit-none : (m n s : ℕ) → s ≡ 0 → leb (n * s) m ≡ true
+fit-none m n s e = rw (e, mul-zero) (le-leb 0 m (omega arith))
+
+pub fit-some : (m n s : ℕ) → (s ≡ 0 → ⊥) → leb n (m / s) ≡ leb (n * s) m
+fit-some m n s h =
+    let d = le-div-iff-mul-le {k = s} {x = n} {y = m} (pos-of-ne-zero h) in
+    leb-same n (m / s) (n * s) m (d .0) (d .1)
+
+pub one-at-most : (b : Bool) → cond b 1 0 ≤ 1
+one-at-most true = omega arith
+one-at-most false = omega arith

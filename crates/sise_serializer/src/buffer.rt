@@ -1,0 +1,127 @@
+// Bytes into a lent buffer: where a token goes, and layout and a token written there.
+ghost use mathlib.Core.Path.{_≡_};
+ghost use mathlib.Core.List.{_++_};
+ghost use Prim.Native.Nat.{_+_, _*_, _≤_, min};
+ghost use lib.Dec.{leb};
+ghost use lib.ListN.{length};
+ghost use Rattle.sise_serializer.specs.Bytes.{pasted, repeat};
+ghost use Rattle.sise_serializer.specs.Parts.{spotOf, Placed};
+
+// The longest text.
+pub const LIMIT: usize = 16777216;
+
+// A token's place: its first byte and its end.
+pub enum Spot {
+    At(usize, usize),
+    NoRoom,
+}
+
+fn smaller(a: usize, b: usize) -> usize
+    ensures { λ r. ⌜ r ≡ min a b ⌝ }
+{
+    if a < b { a } else { b }
+}
+
+// Whether `left` bytes have room for `times` strings of `size` bytes. It divides, since the product could pass 64 bits.
+fn has_room(left: usize, times: usize, size: usize) -> bool
+    ensures { λ r. ⌜ r ≡ leb (times * size) left ⌝ }
+{
+    if size == 0 {
+        return true;
+    }
+    times <= left / size
+}
+
+// The spot of a token of `token` bytes behind `lead` bytes and `times` indentations, the whole beginning at `position` in a buffer of `room` bytes.
+fn find_spot(
+    position: usize,
+    room: usize,
+    lead: usize,
+    times: usize,
+    indentation: usize,
+    token: usize,
+) -> Spot
+    ensures { λ r. ⌜ r ≡ spotOf room position (lead + times * indentation) token ⌝ }
+{
+    let most = smaller(room, LIMIT);
+    if most < position {
+        return Spot::NoRoom;
+    }
+    let after = most - position;
+    if after < lead {
+        return Spot::NoRoom;
+    }
+    let left = after - lead;
+    if left < token {
+        return Spot::NoRoom;
+    }
+    if has_room(left - token, times, indentation) {
+        let layout = lead + times * indentation;
+        let at = position + layout;
+        return Spot::At(at, at + token);
+    }
+    Spot::NoRoom
+}
+
+// Copies `src` to the bytes of `buf` that begin at `at`.
+fn copy(buf: &mut [u8], at: usize, src: &[u8])
+    requires { ⌜ at + length (now src) ≤ length (now buf) ⌝ }
+    ensures { λ _. ⌜ now (buf .exit) ≡ pasted (now (buf .entry)) at (now (src .entry)) ⌝ }
+{
+    let mut i = 0;
+    while i < src.len() {
+        buf[at + i] = src[i];
+        i += 1;
+    }
+}
+
+// Copies `src` as many as `times` times, each behind the last, and returns where the last one ends.
+fn copies(buf: &mut [u8], at: usize, times: usize, src: &[u8]) -> usize
+    requires { ⌜ at + times * length (now src) ≤ length (now buf) ⌝ }
+    ensures { λ r. ⌜ r ≡ at + length (repeat times (now (src .entry))) ⌝ }
+    ensures { λ _. ⌜ now (buf .exit) ≡ pasted (now (buf .entry)) at (repeat times (now (src .entry))) ⌝ }
+{
+    let mut k = 0;
+    let mut to = at;
+    while k < times {
+        copy(buf, to, src);
+        to += src.len();
+        k += 1;
+    }
+    to
+}
+
+// Copies `lead`, then `times` indentations, then `token`.
+fn write(buf: &mut [u8], at: usize, lead: &[u8], times: usize, indentation: &[u8], token: &[u8])
+    requires { ⌜ at + (length (now lead) + times * length (now indentation)) + length (now token) ≤ length (now buf) ⌝ }
+    ensures { λ _. ⌜ now (buf .exit) ≡ pasted (now (buf .entry)) at (now (lead .entry) ++ repeat times (now (indentation .entry)) ++ now (token .entry)) ⌝ }
+{
+    copy(buf, at, lead);
+    let end = copies(buf, at + lead.len(), times, indentation);
+    copy(buf, end, token);
+}
+
+// Writes the three where they have room, and leaves the buffer alone where they have none.
+pub fn place(
+    buf: &mut [u8],
+    at: usize,
+    lead: &[u8],
+    times: usize,
+    indentation: &[u8],
+    token: &[u8],
+) -> Spot
+    ensures { λ r. ⌜ Placed (now (buf .entry)) at (now (lead .entry) ++ repeat times (now (indentation .entry))) (now (token .entry)) r (now (buf .exit)) ⌝ }
+{
+    let spot = find_spot(
+        at,
+        buf.len(),
+        lead.len(),
+        times,
+        indentation.len(),
+        token.len(),
+    );
+    if let Spot::At(_, _) = spot {
+        write(buf, at, lead, times, indentation, token);
+    }
+    spot
+}
