@@ -42,7 +42,7 @@ record Stored (n : ℕ) (buffer : List ℕ) (w : Serializer) (r : Written) : Typ
 
 module _ (s : Style) (n : ℕ) where
   piece-stored : (buffer : List ℕ) → length buffer ≡ n → (w : Serializer) (v : Serializer) (g t : List ℕ) → v .position ≡ w .position + length g + length t
-    → w .position + length g + length t ≤ min n limit → take (v .position) (pasted buffer (w .position) (g ++ t)) ≡ take (w .position) buffer ++ (g ++ t)
+      → w .position + length g + length t ≤ min n limit → take (v .position) (pasted buffer (w .position) (g ++ t)) ≡ take (w .position) buffer ++ (g ++ t)
   piece-stored buffer e w v g t p q = ap (λ (k : ℕ). take k (pasted buffer (w .position) (g ++ t))) there ∙ pasted-head buffer (w .position) (g ++ t) fits
     where
       there : v .position ≡ w .position + length (g ++ t)
@@ -56,26 +56,26 @@ module _ (s : Style) (n : ℕ) where
 
   stored : (buffer : List ℕ) → length buffer ≡ n → (w : Serializer) → Aligned w → w .position ≤ n → (c : Call) (r : Written) → Outcome s n w c r → Stored n buffer w r
   stored buffer e w i h c r (same k u) = record {
-      aligned = i;
-      within = h;
-      size = ap length kept ∙ e;
-      held = ap (take (w .position)) kept ∙ sym (append-nil (take (w .position) buffer));
-    }
+    aligned = i;
+    within = h;
+    size = ap length kept ∙ e;
+    held = ap (take (w .position)) kept ∙ sym (append-nil (take (w .position) buffer));
+  }
     where
       kept : pasted buffer (w .position) [] ≡ buffer
       kept = pasted-none buffer (w .position)
   stored buffer e w i h c r (adds k p a f q) = record {
-      aligned = a .aligned;
-      within = omega (arith, a .position);
-      size = piece-size buffer e (w .position) (p .layout) (p .token) q;
-      held = piece-stored buffer e w (p .after) (p .layout) (p .token) (a .position) q;
-    }
+    aligned = a .aligned;
+    within = omega (arith, a .position);
+    size = piece-size buffer e (w .position) (p .layout) (p .token) q;
+    held = piece-stored buffer e w (p .after) (p .layout) (p .token) (a .position) q;
+  }
   stored buffer e w i h c r (ends wished f g q) = record {
-      aligned = last-aligned s w wished i f;
-      within = omega (arith, last-position s w wished);
-      size = piece-size buffer e (w .position) (last s w wished .layout) (last s w wished .token) q;
-      held = piece-stored buffer e w (last s w wished .after) (last s w wished .layout) (last s w wished .token) (last-position s w wished) q;
-    }
+    aligned = last-aligned s w wished i f;
+    within = omega (arith, last-position s w wished);
+    size = piece-size buffer e (w .position) (last s w wished .layout) (last s w wished .token) q;
+    held = piece-stored buffer e w (last s w wished .after) (last s w wished .layout) (last s w wished .token) (last-position s w wished) q;
+  }
 
   -- a run over the buffer, and the same by its bytes
   record Tied (buffer : List ℕ) (w : Serializer) (r : Run) (b : Writes) : Type 0 where
@@ -89,10 +89,10 @@ module _ (s : Style) (n : ℕ) where
   tied-step : (c : Call) (cs : List Call) → Ties cs → Ties (c ∷ cs)
   unfolding run writes
   tied-step c cs t buffer e w i h = rw e (record {
-      last = later .last;
-      items = ap (λ (l : List Placed). itemOf c (r .answer) ++ l) (later .items);
-      text = later .text ∙ ap (λ (l : List ℕ). l ++ writes s n (r .serializer) cs .text) (now .held) ∙ append-assoc (take (w .position) buffer) (r .bytes) (writes s n (r .serializer) cs .text);
-    })
+    last = later .last;
+    items = ap (λ (l : List Placed). itemOf c (r .answer) ++ l) (later .items);
+    text = later .text ∙ ap (λ (l : List ℕ). l ++ writes s n (r .serializer) cs .text) (now .held) ∙ append-assoc (take (w .position) buffer) (r .bytes) (writes s n (r .serializer) cs .text);
+  })
     where
       r : Written
       r = step s n w c
@@ -129,7 +129,10 @@ module _ (s : Style) (buffer : List ℕ) (cs : List Call) where
 -- record, items and text depend on the buffer's first contents nowhere, but on its length alone
 pub first-contents : (s : Style) (b c : List ℕ) (cs : List Call) → length b ≡ length c
     → (writing s b cs .last ≡ writing s c cs .last) × ((writing s b cs .items ≡ writing s c cs .items) × (textOf (writing s b cs) ≡ textOf (writing s c cs)))
-first-contents s b c cs e =
-    (same-last s b cs ∙ ap (λ (n : ℕ). writes s n freshSerializer cs .last) e ∙ sym (same-last s c cs),
-    (same-items s b cs ∙ ap (λ (n : ℕ). writes s n freshSerializer cs .items) e ∙ sym (same-items s c cs),
-    same-text s b cs ∙ ap (λ (n : ℕ). writes s n freshSerializer cs .text) e ∙ sym (same-text s c cs)))
+first-contents s b c cs e = (
+  same-last s b cs ∙ ap (λ (n : ℕ). writes s n freshSerializer cs .last) e ∙ sym (same-last s c cs),
+  (
+    same-items s b cs ∙ ap (λ (n : ℕ). writes s n freshSerializer cs .items) e ∙ sym (same-items s c cs),
+    same-text s b cs ∙ ap (λ (n : ℕ). writes s n freshSerializer cs .text) e ∙ sym (same-text s c cs),
+  ),
+)

@@ -59,11 +59,11 @@ module _ (s : Style) (blank : Blank s) (buffer : List ℕ) (cs : List Call) (fin
 
   pub one-writing : Holds s buffer cs (itemsOf (writing s buffer cs .items))
   one-writing = record {
-      gives = gives;
-      reads = λ k. ap (itemsRead (textOf (writing s buffer cs))) (gives .answers k) ∙ all-read (textOf (writing s buffer cs)) (gives .bytes) k (k - length (writing s buffer cs .items));
-      node = rw (same-items s buffer cs) (one-node s n cs done);
-      size = rw (same-text s buffer cs, same-items s buffer cs, same-last s buffer cs) (its-length s n cs done ∙ omega arith);
-    }
+    gives = gives;
+    reads = λ k. ap (itemsRead (textOf (writing s buffer cs))) (gives .answers k) ∙ all-read (textOf (writing s buffer cs)) (gives .bytes) k (k - length (writing s buffer cs .items));
+    node = rw (same-items s buffer cs) (one-node s n cs done);
+    size = rw (same-text s buffer cs, same-items s buffer cs, same-last s buffer cs) (its-length s n cs done ∙ omega arith);
+  }
 
 -- two writings, each with its own style, buffer and calls, thresholds among them, and the refused ones: if both are of these items, what is read from
 -- either text is these items
@@ -79,5 +79,5 @@ worked-alike : Holds house used (worked 4) workedItems × Holds house used (work
 unfolding shown
 worked-alike =
     only-layout-differs workedItems house used (worked 4) house used (worked 5)
-      house-blank (ap (λ (s : Shown). s .phase) at-4) (ap (λ (s : Shown). s .items) at-4)
-      house-blank (ap (λ (s : Shown). s .phase) at-5) (ap (λ (s : Shown). s .items) at-5)
+    house-blank (ap (λ (s : Shown). s .phase) at-4) (ap (λ (s : Shown). s .items) at-4)
+    house-blank (ap (λ (s : Shown). s .phase) at-5) (ap (λ (s : Shown). s .items) at-5)

@@ -15,7 +15,7 @@ use Rattle.sise_layout.specs.Reading.{answersFrom, asRead, Stands, All, 
 pub data Follows (text : List ℕ) : Reader → List Placed → Type 0 where
   over : {r : Reader} → nextItem text r ≡ next r (refusedWith 9) → finishReading text r ≡ ended → Follows text r []
   goes : {r r′ : Reader} {i : Placed} {is : List Placed} → nextItem text r ≡ next r′ (asRead i) → finishReading text r ≡ notEnded (refusal 10 0 0)
-    → Stands text i → Follows text r′ is → Follows text r (i ∷ is)
+      → Stands text i → Follows text r′ is → Follows text r (i ∷ is)
 
 module _ (text : List ℕ) where
   -- the record after k calls, the first of them first
@@ -42,7 +42,7 @@ module _ (text : List ℕ) where
   stays-answers r a e (suc k) = rw e (ap (λ (l : List Answer). a ∷ l) (stays-answers r a e k))
 
   follows-answers : {r : Reader} {is : List Placed} → Follows text r is → (k : ℕ)
-    → answersFrom text r k ≡ take k (map asRead is) ++ replicate (k - length is) (refusedWith 9)
+      → answersFrom text r k ≡ take k (map asRead is) ++ replicate (k - length is) (refusedWith 9)
   unfolding answersFrom
   follows-answers (over n f) zero = refl
   follows-answers {r} (over n f) (suc k) =
@@ -69,8 +69,8 @@ module _ (text : List ℕ) where
 
   pub follows-gives : {is : List Placed} → Follows text freshReader is → Gives text is
   follows-gives t = record {
-      answers = follows-answers t;
-      bytes = follows-bytes t;
-      early = λ k h. ap (finishReading text) (after-calls k) ∙ follows-early t k h;
-      finished = λ k h. ap (finishReading text) (after-calls k) ∙ follows-end t k h;
-    }
+    answers = follows-answers t;
+    bytes = follows-bytes t;
+    early = λ k h. ap (finishReading text) (after-calls k) ∙ follows-early t k h;
+    finished = λ k h. ap (finishReading text) (after-calls k) ∙ follows-end t k h;
+  }

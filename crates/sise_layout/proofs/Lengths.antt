@@ -34,7 +34,7 @@ module _ (s : Style) (room : ℕ) where
   Counts cs = (w : Serializer) → Aligned w → Counted s w (writes s room w cs .items) (writes s room w cs .text) (writes s room w cs .last)
 
   count-step : (cs : List Call) → Counts cs → (w : Serializer) → Aligned w → (c : Call) (r : Written) → Outcome s room w c r
-    → Counted s w (itemOf c (r .answer) ++ writes s room (r .serializer) cs .items) (r .bytes ++ writes s room (r .serializer) cs .text) (writes s room (r .serializer) cs .last)
+      → Counted s w (itemOf c (r .answer) ++ writes s room (r .serializer) cs .items) (r .bytes ++ writes s room (r .serializer) cs .text) (writes s room (r .serializer) cs .last)
   count-step cs h w i c r (same n u) = h w i
   count-step cs h w i c r (adds k p a e q) =
       rw (e, length-append, length-append) (omega (arith, a .paid, h (p .after) (a .aligned), item-counted k (itemsOf (writes s room (p .after) cs .items))))
@@ -57,7 +57,7 @@ module _ (s : Style) (room : ℕ) where
   stays-aligned (c ∷ cs) w i = stays-aligned cs (step s room w c .serializer) (aligned-step w i c (step s room w c) (outcome s room w i c))
 
   pub its-length : (cs : List Call) → writes s room freshSerializer cs .last .phase ≡ Done
-    → length (writes s room freshSerializer cs .text) ≡ bytesOf (writes s room freshSerializer cs .items) + layoutOf s (writes s room freshSerializer cs .last)
+      → length (writes s room freshSerializer cs .text) ≡ bytesOf (writes s room freshSerializer cs .items) + layoutOf s (writes s room freshSerializer cs .last)
   unfolding freshSerializer
   its-length cs f = omega (arith, counts cs freshSerializer fresh-aligned, none-open)
     where

@@ -184,16 +184,16 @@ mutual
   plain-on [] r p s h k = plain-stops r p s k ∙ ap (through s) (omega arith)
   plain-on (b ∷ a) r p s h k =
       plain-step b a r p s (through s (p + length (b ∷ a))) h
-        (λ o. plain-on a r (p + 1) s o k ∙ ap (through s) (omega arith))
-        (λ i. string-on a r (p + 1) s i k ∙ ap (through s) (omega arith))
+      (λ o. plain-on a r (p + 1) s o k ∙ ap (through s) (omega arith))
+      (λ i. string-on a r (p + 1) s i k ∙ ap (through s) (omega arith))
 
   string-on : (a r : List ℕ) (p s : ℕ) → inside a ≡ true → stops r ≡ true → string (a ++ r) p s ≡ through s (p + length a)
   string-on [] r p s h k = absurd (false≢true h)
   string-on (b ∷ a) r p s h k =
       string-step b a r p s (through s (p + length (b ∷ a))) h
-        (λ o. plain-on a r (p + 1) s o k ∙ ap (through s) (omega arith))
-        (λ i. string-on a r (p + 1) s i k ∙ ap (through s) (omega arith))
-        (λ i. escape-on a r (p + 1) s i k ∙ ap (through s) (omega arith))
+      (λ o. plain-on a r (p + 1) s o k ∙ ap (through s) (omega arith))
+      (λ i. string-on a r (p + 1) s i k ∙ ap (through s) (omega arith))
+      (λ i. escape-on a r (p + 1) s i k ∙ ap (through s) (omega arith))
 
   escape-on : (a r : List ℕ) (p s : ℕ) → escaped a ≡ true → stops r ≡ true → escape (a ++ r) p s ≡ through s (p + length a)
   escape-on [] r p s h k = absurd (false≢true h)

@@ -52,7 +52,7 @@ module _ (s : Style) (room : ℕ) where
   Spelled cs = (w : Serializer) → Aligned w → writes s room w cs .last .phase ≡ Done → Spells (w .phase) (w .lists) (itemsOf (writes s room w cs .items))
 
   spelled-step : (cs : List Call) → Spelled cs → (w : Serializer) → Aligned w → (c : Call) (r : Written) → Outcome s room w c r
-    → writes s room (r .serializer) cs .last .phase ≡ Done → Spells (w .phase) (w .lists) (itemsOf (itemOf c (r .answer) ++ writes s room (r .serializer) cs .items))
+      → writes s room (r .serializer) cs .last .phase ≡ Done → Spells (w .phase) (w .lists) (itemsOf (itemOf c (r .answer) ++ writes s room (r .serializer) cs .items))
   unfolding last
   spelled-step cs h w i c r (same n u) d = h w i d
   spelled-step cs h w i c r (adds k p a e q) d = rw e (spell-step _ (a .turns) (h (p .after) (a .aligned) d))

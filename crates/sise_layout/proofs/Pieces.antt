@@ -108,50 +108,50 @@ module _ (s : Style) (w : Serializer) (i : Aligned w) (f : w .phase ≡ Beginnin
   pub first-atom : (a : List ℕ) → isAtom a ≡ true → Adds s w (atom a) (firstAtom w a)
   unfolding firstAtom inBeginning asRead
   first-atom a h = record {
-      bytes = refl;
-      proper = h;
-      blank = λ b. refl;
+    bytes = refl;
+    proper = h;
+    blank = λ b. refl;
+    position = omega arith;
+    going = going-first;
+    taken = λ o q. rw (f, none-open) refl;
+    aligned = record { fit = refl; small = omega arith };
+    follow = λ r g. g refl;
+    apart = λ b g. absurd (false≢true (rw f at g));
+    turns = rw (f, none-open) (only a);
+    kept = λ h e. record {
       position = omega arith;
-      going = going-first;
-      taken = λ o q. rw (f, none-open) refl;
-      aligned = record { fit = refl; small = omega arith };
-      follow = λ r g. g refl;
-      apart = λ b g. absurd (false≢true (rw f at g));
-      turns = rw (f, none-open) (only a);
-      kept = λ h e. record {
-          position = omega arith;
-          line = omega (arith, h .line);
-          lists = omega arith;
-          spaces = omega (arith, h .spaces);
-          breaks = omega (arith, first-breaks h);
-          indents = omega (arith, h .indents);
-        };
-      paid = rw none-open (omega arith);
-    }
+      line = omega (arith, h .line);
+      lists = omega arith;
+      spaces = omega (arith, h .spaces);
+      breaks = omega (arith, first-breaks h);
+      indents = omega (arith, h .indents);
+    };
+    paid = rw none-open (omega arith);
+  }
 
   pub first-list : Adds s w listStart (firstList w)
   unfolding firstList inBeginning asRead
   first-list = record {
-      bytes = refl;
-      proper = refl;
-      blank = λ b. refl;
+    bytes = refl;
+    proper = refl;
+    blank = λ b. refl;
+    position = omega arith;
+    going = going-first;
+    taken = λ o q. rw f refl;
+    aligned = record { fit = refl; small = omega arith };
+    follow = λ r g. refl;
+    apart = λ b g. absurd (false≢true (rw f at g));
+    turns = rw (f, none-open) begins;
+    kept = λ h e. record {
       position = omega arith;
-      going = going-first;
-      taken = λ o q. rw f refl;
-      aligned = record { fit = refl; small = omega arith };
-      follow = λ r g. refl;
-      apart = λ b g. absurd (false≢true (rw f at g));
-      turns = rw (f, none-open) begins;
-      kept = λ h e. record {
-          position = omega arith;
-          line = omega arith;
-          lists = omega arith;
-          spaces = omega (arith, h .spaces);
-          breaks = omega (arith, first-breaks h);
-          indents = omega (arith, h .indents);
-        };
-      paid = rw none-open (omega arith);
-    }
+      line = omega arith;
+      lists = omega arith;
+      spaces = omega (arith, h .spaces);
+      breaks = omega (arith, first-breaks h);
+      indents = omega (arith, h .indents);
+    };
+    paid = rw none-open (omega arith);
+  }
 
 -- a gap in a list: a new line, nothing, or a space
 module _ (s : Style) (w : Serializer) where
@@ -190,32 +190,32 @@ module _ (s : Style) (w : Serializer) (f : w .phase ≡ Writing) where
   opened-kept false below h = h
 
   innerAs-kept : (a : List ℕ) (isList : Bool) → 1 ≤ length a → (isList ≡ true → w .lists < deepest) → Bounded w
-    → (g : Gap) → w .position + length (innerAs s w a isList g .layout) + length a ≤ limit → Bounded (innerAs s w a isList g .after)
+      → (g : Gap) → w .position + length (innerAs s w a isList g .layout) + length a ≤ limit → Bounded (innerAs s w a isList g .after)
   unfolding innerAs laid
   innerAs-kept a isList one below h newLine e = record {
-      position = e;
-      line = rw (newLine-length s (w .lists)) (omega arith);
-      lists = opened-kept isList below (h .lists);
-      spaces = omega (arith, h .spaces);
-      breaks = omega (arith, writing-breaks h);
-      indents = omega (arith, h .indents, h .lists);
-    }
+    position = e;
+    line = rw (newLine-length s (w .lists)) (omega arith);
+    lists = opened-kept isList below (h .lists);
+    spaces = omega (arith, h .spaces);
+    breaks = omega (arith, writing-breaks h);
+    indents = omega (arith, h .indents, h .lists);
+  }
   innerAs-kept a isList one below h nothing e = record {
-      position = e;
-      line = omega (arith, h .line);
-      lists = opened-kept isList below (h .lists);
-      spaces = omega (arith, h .spaces);
-      breaks = omega (arith, writing-breaks h);
-      indents = omega (arith, h .indents);
-    }
+    position = e;
+    line = omega (arith, h .line);
+    lists = opened-kept isList below (h .lists);
+    spaces = omega (arith, h .spaces);
+    breaks = omega (arith, writing-breaks h);
+    indents = omega (arith, h .indents);
+  }
   innerAs-kept a isList one below h space e = record {
-      position = e;
-      line = omega (arith, h .line);
-      lists = opened-kept isList below (h .lists);
-      spaces = omega (arith, h .spaces);
-      breaks = omega (arith, writing-breaks h);
-      indents = omega (arith, h .indents);
-    }
+    position = e;
+    line = omega (arith, h .line);
+    lists = opened-kept isList below (h .lists);
+    spaces = omega (arith, h .spaces);
+    breaks = omega (arith, writing-breaks h);
+    indents = omega (arith, h .indents);
+  }
 
 module _ (s : Style) (w : Serializer) (t : ℕ) (i : Aligned w) (f : w .phase ≡ Writing) where
   abbrev gap : Gap
@@ -244,43 +244,43 @@ module _ (s : Style) (w : Serializer) (t : ℕ) (i : Aligned w) (f : w .phase �
   atom-bytes (b ∷ a) h = omega arith
 
   inner-kept : (a : List ℕ) (isList : Bool) → 1 ≤ length a → (isList ≡ true → w .lists < deepest)
-    → Bounded w → w .position + length (inner s w a isList t .layout) + length a ≤ limit → Bounded (inner s w a isList t .after)
+      → Bounded w → w .position + length (inner s w a isList t .layout) + length a ≤ limit → Bounded (inner s w a isList t .after)
   unfolding inner
   inner-kept a isList one below h e = innerAs-kept s w f a isList one below h gap e
 
   pub inner-atom : (a : List ℕ) → isAtom a ≡ true → Adds s w (atom a) (inner s w a false t)
   unfolding inner innerAs inParsing asRead
   inner-atom a h = record {
-      bytes = refl;
-      proper = h;
-      blank = laid-blank s w gap;
-      position = refl;
-      going = going-inside;
-      taken = λ o q. rw f refl;
-      aligned = record { fit = rw f at (i .fit); small = omega (arith, i .small) };
-      follow = λ r g. g refl;
-      apart = inner-apart a;
-      turns = rw f (some-lists (λ n. Turns Writing n (atom a) Writing n) (λ m. holds a));
-      kept = inner-kept a false (atom-bytes a h) (λ e. absurd (false≢true e));
-      paid = omega (arith, laid-paid s w gap);
-    }
+    bytes = refl;
+    proper = h;
+    blank = laid-blank s w gap;
+    position = refl;
+    going = going-inside;
+    taken = λ o q. rw f refl;
+    aligned = record { fit = rw f at (i .fit); small = omega (arith, i .small) };
+    follow = λ r g. g refl;
+    apart = inner-apart a;
+    turns = rw f (some-lists (λ n. Turns Writing n (atom a) Writing n) (λ m. holds a));
+    kept = inner-kept a false (atom-bytes a h) (λ e. absurd (false≢true e));
+    paid = omega (arith, laid-paid s w gap);
+  }
 
   pub inner-list : w .lists < deepest → Adds s w listStart (inner s w (40 ∷ []) true t)
   unfolding inner innerAs inParsing asRead
   inner-list below = record {
-      bytes = refl;
-      proper = refl;
-      blank = laid-blank s w gap;
-      position = refl;
-      going = going-inside;
-      taken = λ o q. rw f refl;
-      aligned = record { fit = le-leb 1 (w .lists + 1) (omega arith); small = omega (arith, i .small) };
-      follow = λ r g. refl;
-      apart = inner-apart (40 ∷ []);
-      turns = rw f (some-lists (λ n. Turns Writing n listStart Writing (n + 1)) (λ m. rw add-one deepens));
-      kept = inner-kept (40 ∷ []) true (omega arith) (λ e. below);
-      paid = omega (arith, laid-paid s w gap);
-    }
+    bytes = refl;
+    proper = refl;
+    blank = laid-blank s w gap;
+    position = refl;
+    going = going-inside;
+    taken = λ o q. rw f refl;
+    aligned = record { fit = le-leb 1 (w .lists + 1) (omega arith); small = omega (arith, i .small) };
+    follow = λ r g. refl;
+    apart = inner-apart (40 ∷ []);
+    turns = rw f (some-lists (λ n. Turns Writing n listStart Writing (n + 1)) (λ m. rw add-one deepens));
+    kept = inner-kept (40 ∷ []) true (omega arith) (λ e. below);
+    paid = omega (arith, laid-paid s w gap);
+  }
 
 -- the close of a list, broken or not
 module _ (s : Style) (w : Serializer) (i : Aligned w) (f : w .phase ≡ Writing) where
@@ -342,38 +342,38 @@ module _ (s : Style) (w : Serializer) (i : Aligned w) (f : w .phase ≡ Writing)
   close-kept : (b : Bool) → Bounded w → w .position + length (closeAs s w b .layout) + length (closeAs s w b .token) ≤ limit → Bounded (closeAs s w b .after)
   unfolding closeAs
   close-kept true h e = record {
-      position = e;
-      line = rw (newLine-length s (w .lists - 1)) (omega arith);
-      lists = omega (arith, h .lists);
-      spaces = omega (arith, h .spaces);
-      breaks = rw (no-last-break (w .lists - 1)) (omega (arith, writing-breaks s w f h));
-      indents = omega (arith, h .indents, h .lists);
-    }
+    position = e;
+    line = rw (newLine-length s (w .lists - 1)) (omega arith);
+    lists = omega (arith, h .lists);
+    spaces = omega (arith, h .spaces);
+    breaks = rw (no-last-break (w .lists - 1)) (omega (arith, writing-breaks s w f h));
+    indents = omega (arith, h .indents, h .lists);
+  }
   close-kept false h e = record {
-      position = e;
-      line = omega (arith, h .line);
-      lists = omega (arith, h .lists);
-      spaces = omega (arith, h .spaces);
-      breaks = rw (no-last-break (w .lists - 1)) (omega (arith, writing-breaks s w f h));
-      indents = omega (arith, h .indents);
-    }
+    position = e;
+    line = omega (arith, h .line);
+    lists = omega (arith, h .lists);
+    spaces = omega (arith, h .spaces);
+    breaks = rw (no-last-break (w .lists - 1)) (omega (arith, writing-breaks s w f h));
+    indents = omega (arith, h .indents);
+  }
 
   close-adds : (b : Bool) → Adds s w listEnd (closeAs s w b)
   unfolding closeAs
   close-adds b = record {
-      bytes = refl;
-      proper = refl;
-      blank = close-blank b;
-      position = refl;
-      going = rw f inside;
-      taken = close-taken;
-      aligned = record { fit = close-fit; small = omega (arith, i .small) };
-      follow = λ r g. refl;
-      apart = λ bl g. close-apart b bl;
-      turns = rw f close-turns;
-      kept = close-kept b;
-      paid = omega (arith, close-paid b);
-    }
+    bytes = refl;
+    proper = refl;
+    blank = close-blank b;
+    position = refl;
+    going = rw f inside;
+    taken = close-taken;
+    aligned = record { fit = close-fit; small = omega (arith, i .small) };
+    follow = λ r g. refl;
+    apart = λ bl g. close-apart b bl;
+    turns = rw f close-turns;
+    kept = close-kept b;
+    paid = omega (arith, close-paid b);
+  }
 
   pub close-list : Adds s w listEnd (close s w)
   unfolding close

@@ -63,7 +63,7 @@ module _ (s : Style) (b : Blank s) (room : ℕ) where
   Stops cs = (w : Serializer) → Aligned w → settled w ≡ true → stops (writes s room w cs .text) ≡ true
 
   stops-step : (cs : List Call) → Stops cs → (w : Serializer) → Aligned w → settled w ≡ true → (c : Call) (r : Written) → Outcome s room w c r
-    → stops (r .bytes ++ writes s room (r .serializer) cs .text) ≡ true
+      → stops (r .bytes ++ writes s room (r .serializer) cs .text) ≡ true
   stops-step cs h w i g c r (same n u) = h w i g
   stops-step cs h w i g c r (adds k p a e q) = a .apart b g (writes s room (p .after) cs .text)
   stops-step cs h w i g c r (ends wished f e q) =
@@ -80,13 +80,13 @@ module _ (s : Style) (b : Blank s) (room : ℕ) where
   Silences cs = (w : Serializer) → Aligned w → isOver (w .phase) ≡ true → Silent (writes s room w cs .items) (writes s room w cs .text)
 
   silent-step : (cs : List Call) → Silences cs → (w : Serializer) → Aligned w → isOver (w .phase) ≡ true → (c : Call) (r : Written) → Outcome s room w c r
-    → Silent (itemOf c (r .answer) ++ writes s room (r .serializer) cs .items) (r .bytes ++ writes s room (r .serializer) cs .text)
+      → Silent (itemOf c (r .answer) ++ writes s room (r .serializer) cs .items) (r .bytes ++ writes s room (r .serializer) cs .text)
   silent-step cs h w i o c r (same n u) = h w i o
   silent-step cs h w i o c r (adds k p a e q) = absurd (false≢true (sym (not-going (w .phase) (a .going)) ∙ o))
   silent-step cs h w i o c r (ends wished f e q) = record {
-      noItem = rw e (later .noItem);
-      blank = append-blank (last s w wished .layout ++ last s w wished .token) _ (last-blank s w wished b) (later .blank);
-    }
+    noItem = rw e (later .noItem);
+    blank = append-blank (last s w wished .layout ++ last s w wished .token) _ (last-blank s w wished b) (later .blank);
+  }
     where
       later : Silent (writes s room (last s w wished .after) cs .items) (writes s room (last s w wished .after) cs .text)
       later = h (last s w wished .after) (last-aligned s w wished i f) (rw (last-done s w wished))
@@ -99,10 +99,10 @@ module _ (s : Style) (b : Blank s) (room : ℕ) where
   -- the text is read back from any record of the writer's
   abbrev ReadBack : List Call → Type 0
   ReadBack cs = (w : Serializer) (pre : List ℕ) → Aligned w → length pre ≡ w .position → writes s room w cs .last .phase ≡ Done
-    → Follows (pre ++ writes s room w cs .text) (beside w) (writes s room w cs .items)
+      → Follows (pre ++ writes s room w cs .text) (beside w) (writes s room w cs .items)
 
   read-over : (cs : List Call) (w : Serializer) (pre : List ℕ) → Aligned w → length pre ≡ w .position → isOver (w .phase) ≡ true
-    → Follows (pre ++ writes s room w cs .text) (beside w) (writes s room w cs .items)
+      → Follows (pre ++ writes s room w cs .text) (beside w) (writes s room w cs .items)
   read-over cs w pre i h o =
       rw (quiet .noItem, over-phase (w .phase) o)
       (over (next-over pre _ (w .position) (w .lists) h (i .small) fit) (end-over pre _ (w .position) (w .lists) h (i .small) fit (quiet .blank)))
@@ -114,17 +114,17 @@ module _ (s : Style) (b : Blank s) (room : ℕ) where
       fit = rw (over-phase (w .phase) o) at (fit-alike (w .phase) (w .lists) (i .fit))
 
   read-item : (cs : List Call) → ReadBack cs → (w : Serializer) (pre : List ℕ) → Aligned w → length pre ≡ w .position
-    → (k : Item) (p : Piece) → Adds s w k p → writes s room (p .after) cs .last .phase ≡ Done
-    → Follows (pre ++ (p .layout ++ p .token ++ writes s room (p .after) cs .text)) (beside w)
-        (placed k (w .position + length (p .layout)) ∷ writes s room (p .after) cs .items)
+      → (k : Item) (p : Piece) → Adds s w k p → writes s room (p .after) cs .last .phase ≡ Done
+      → Follows (pre ++ (p .layout ++ p .token ++ writes s room (p .after) cs .text)) (beside w)
+      (placed k (w .position + length (p .layout)) ∷ writes s room (p .after) cs .items)
   read-item cs h w pre i l k p a d =
       goes
-        (next-at pre _ (w .position) (w .lists) l (i .small) (a .going) fit
-          ∙ ap (taken (phaseOf (w .phase)) (w .lists)) lexed
-          ∙ a .taken (w .position + length (p .layout)) (p .after .position))
-        (early-at pre _ (w .position) (w .lists) l (i .small) (a .going) fit)
-        (rw (a .bytes) (stands-at k pre (p .layout) rest (w .position) l))
-        (rw (append-assoc pre) at (h (p .after) (pre ++ (p .layout ++ p .token)) (a .aligned) ends-there d))
+      (next-at pre _ (w .position) (w .lists) l (i .small) (a .going) fit
+      ∙ ap (taken (phaseOf (w .phase)) (w .lists)) lexed
+      ∙ a .taken (w .position + length (p .layout)) (p .after .position))
+      (early-at pre _ (w .position) (w .lists) l (i .small) (a .going) fit)
+      (rw (a .bytes) (stands-at k pre (p .layout) rest (w .position) l))
+      (rw (append-assoc pre) at (h (p .after) (pre ++ (p .layout ++ p .token)) (a .aligned) ends-there d))
     where
       rest : List ℕ
       rest = writes s room (p .after) cs .text
@@ -145,8 +145,8 @@ module _ (s : Style) (b : Blank s) (room : ℕ) where
           ∙ ap (found (lexeme k) (w .position + length (p .layout))) token-ends)
 
   read-step : (cs : List Call) → ReadBack cs → (w : Serializer) (pre : List ℕ) → Aligned w → length pre ≡ w .position → isOver (w .phase) ≡ false
-    → (c : Call) (r : Written) → Outcome s room w c r → writes s room (r .serializer) cs .last .phase ≡ Done
-    → Follows (pre ++ (r .bytes ++ writes s room (r .serializer) cs .text)) (beside w) (itemOf c (r .answer) ++ writes s room (r .serializer) cs .items)
+      → (c : Call) (r : Written) → Outcome s room w c r → writes s room (r .serializer) cs .last .phase ≡ Done
+      → Follows (pre ++ (r .bytes ++ writes s room (r .serializer) cs .text)) (beside w) (itemOf c (r .answer) ++ writes s room (r .serializer) cs .items)
   read-step cs h w pre i l o c r (same n u) d = h w pre i l d
   read-step cs h w pre i l o c r (adds k p a e q) d = rw e (read-item cs h w pre i l k p a d)
   read-step cs h w pre i l o c r (ends wished f e q) d = absurd (false≢true (sym o ∙ rw f))
@@ -158,6 +158,6 @@ module _ (s : Style) (b : Blank s) (room : ℕ) where
       split (isOver (w .phase)) (read-over (c ∷ cs) w pre i l) (λ o. read-step cs (read-back cs) w pre i l o c (step s room w c) (outcome s room w i c) d)
 
   pub follows : (cs : List Call) → writes s room freshSerializer cs .last .phase ≡ Done
-    → Follows (writes s room freshSerializer cs .text) parser.freshReader (writes s room freshSerializer cs .items)
+      → Follows (writes s room freshSerializer cs .text) parser.freshReader (writes s room freshSerializer cs .items)
   unfolding freshSerializer
   follows cs d = read-back cs freshSerializer [] fresh-aligned refl d

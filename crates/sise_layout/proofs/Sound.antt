@@ -31,32 +31,32 @@ sound-of w i b =
 fresh-bounded : Bounded freshSerializer
 unfolding freshSerializer
 fresh-bounded = record {
-    position = omega arith;
-    line = omega arith;
-    lists = omega arith;
-    spaces = omega arith;
-    breaks = omega arith;
-    indents = omega arith;
-  }
+  position = omega arith;
+  line = omega arith;
+  lists = omega arith;
+  spaces = omega arith;
+  breaks = omega arith;
+  indents = omega arith;
+}
 
 last-kept : (s : Style) (w : Serializer) (wished : Bool) → w .phase ≡ Finished → Bounded w → endOf w (last s w wished) ≤ limit → Bounded (last s w wished .after)
 unfolding last
 last-kept s w true f h e = record {
-    position = omega arith;
-    line = omega (arith, h .line);
-    lists = h .lists;
-    spaces = omega (arith, h .spaces);
-    breaks = omega (arith, (rw f at (h .breaks)));
-    indents = omega (arith, h .indents);
-  }
+  position = omega arith;
+  line = omega (arith, h .line);
+  lists = h .lists;
+  spaces = omega (arith, h .spaces);
+  breaks = omega (arith, (rw f at (h .breaks)));
+  indents = omega (arith, h .indents);
+}
 last-kept s w false f h e = record {
-    position = omega arith;
-    line = omega (arith, h .line);
-    lists = h .lists;
-    spaces = omega (arith, h .spaces);
-    breaks = omega (arith, (rw f at (h .breaks)));
-    indents = omega (arith, h .indents);
-  }
+  position = omega arith;
+  line = omega (arith, h .line);
+  lists = h .lists;
+  spaces = omega (arith, h .spaces);
+  breaks = omega (arith, (rw f at (h .breaks)));
+  indents = omega (arith, h .indents);
+}
 
 -- what a call leaves
 record Kept (r : Written) : Type 0 where
@@ -67,10 +67,10 @@ record Kept (r : Written) : Type 0 where
 kept : (s : Style) (room : ℕ) (w : Serializer) → Aligned w → Bounded w → (c : Call) (r : Written) → Outcome s room w c r → Kept r
 unfolding isNot11
 kept s room w i b c r (same n u) = record {
-    answer = split (eqb n 11) (λ e. absurd (false≢true (sym (rw (sound-of w i b) at (u e))))) (λ e. rw e);
-    aligned = i;
-    bounded = b;
-  }
+  answer = split (eqb n 11) (λ e. absurd (false≢true (sym (rw (sound-of w i b) at (u e))))) (λ e. rw e);
+  aligned = i;
+  bounded = b;
+}
 kept s room w i b c r (adds k p a e q) = record { answer = refl; aligned = a .aligned; bounded = a .kept b (omega arith) }
 kept s room w i b c r (ends wished f e q) = record { answer = refl; aligned = last-aligned s w wished i f; bounded = last-kept s w wished f b (omega arith) }
 
