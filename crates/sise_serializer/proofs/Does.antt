@@ -4,13 +4,13 @@ use Prim.Native.Nat.{ℕ, _+_, _-_, _*_, _≤_, _<_}
 use native.Mathlib.Nat.{add-zero}
 use mathlib.Core.Path.{_≡_, refl, sym, ap, _∙_}
 use mathlib.Core.Bool.{Bool, true, false, cond}
-use mathlib.Core.List.{List, [], append-nil}
+use mathlib.Core.List.{List, [], _∷_, append-nil}
 use lib.ListN.{length, getD}
 use borrow.Author.Tests.{lt-ltb, le-ltb}
 use Rattle.sise_util.specs.Atom.{isAtom}
 use Rattle.sise_serializer.specs.Bytes.{repeat}
 use Rattle.sise_serializer.specs.Serializer.{Answer, refused, answerAs, Does, isSound, Style, Piece, refuse, place, Gap, newLine, nothing, space, gapAt, laid, inner, innerAs, close, closeAs, last, putIn, putAtom, beginIn, beginList, endIn, endList, finishIn, finishWriting}
-use Rattle.sise_serializer.specs.Parts.{Placed, closedWith, itemWith}
+use Rattle.sise_serializer.specs.Parts.{Placed, closedWith, inLine}
 use Rattle.sise_serializer.specs.declared.serializer.Phase.{Phase}
 use Rattle.sise_serializer.specs.declared.serializer.Serializer.{Serializer}
 use Rattle.sise_serializer.specs.declared.buffer.Spot.{Spot}
@@ -57,12 +57,19 @@ module _ (w : Serializer) (t : ℕ) where
   pub gap-space : w .«line_len» < t → w .«list_beginning» ≡ false → gapAt w t ≡ space
   gap-space h b = simp (lt-ltb _ _ h, b)
 
--- an item behind that gap
-pub inner-is : (s : Style) (w : Serializer) (token : List ℕ) (isList : Bool) (t : ℕ) {g : Gap} → gapAt w t ≡ g
-    → inner s w token isList t
-    ≡ itemWith w token isList ((laid g s w) .bytes) ((laid g s w) .flags) ((laid g s w) .line) ((laid g s w) .spaces) ((laid g s w) .breaks) ((laid g s w) .indents)
-unfolding inner innerAs itemWith
-inner-is s w token isList t gap = ap (innerAs s w token isList) gap
+-- an item behind that gap, on a new line or in the same one
+module _ (s : Style) (w : Serializer) (token : List ℕ) (isList : Bool) (t : ℕ) where
+  pub inner-is : {g : Gap} → gapAt w t ≡ g → inner s w token isList t ≡ innerAs s w token isList g
+  unfolding inner
+  inner-is gap = ap (innerAs s w token isList) gap
+
+  pub nothing-is : gapAt w t ≡ nothing → inner s w token isList t ≡ inLine w token isList []
+  unfolding innerAs laid inLine
+  nothing-is gap = inner-is gap ∙ rw (add-zero (w .«line_len»), add-zero (w .spaces))
+
+  pub space-is : gapAt w t ≡ space → inner s w token isList t ≡ inLine w token isList (32 ∷ [])
+  unfolding innerAs laid inLine
+  space-is gap = inner-is gap
 
 -- ---- the close of a list, by its flag
 

@@ -65,10 +65,10 @@ addedWith w isList flags position line spaces breaks indents = record {
   indents = indents;
 }
 
--- an item in a list, behind its layout, which leaves `line` bytes in the line; flags and counts are given
-unfoldable pub itemWith : Serializer → List ℕ → Bool → List ℕ → List Bool → ℕ → ℕ → ℕ → ℕ → Piece
-itemWith w token isList layout flags line spaces breaks indents = record {
-  layout = layout;
+-- an item in the same line, behind `lead`, which is a space or nothing
+unfoldable pub inLine : Serializer → List ℕ → Bool → List ℕ → Piece
+inLine w token isList lead = record {
+  layout = lead;
   token = token;
-  after = addedWith w isList flags (w .position + length layout + length token) (line + length token) spaces breaks indents;
+  after = addedWith w isList (w .«line_broken») (w .position + length lead + length token) (w .«line_len» + length lead + length token) (w .spaces + length lead) (w .breaks) (w .indents);
 }

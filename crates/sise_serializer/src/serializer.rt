@@ -5,12 +5,11 @@ use crate::buffer::place;
 use sise_util::check_atom;
 ghost use mathlib.Core.Path.{_≡_};
 ghost use mathlib.Core.Bool.{true, cond};
-ghost use mathlib.Core.List.{[], _++_};
-ghost use Prim.Native.Nat.{_+_, _*_, _≤_, _<_};
+ghost use mathlib.Core.List.{[]};
+ghost use Prim.Native.Nat.{_≤_, _<_};
 ghost use lib.ListN.{length};
-ghost use Rattle.sise_serializer.specs.Bytes.{repeat};
-ghost use Rattle.sise_serializer.specs.Parts.{Small, closedWith, addedWith, itemWith};
-ghost use Rattle.sise_serializer.specs.Serializer.{freshSerializer, style, limit, listsFit, lastBreak, isSound, phaseAfter, flagsAfter, Does, place, firstAtom, firstList, inner, close, last, putAtom, beginList, endList, finishWriting};
+ghost use Rattle.sise_serializer.specs.Parts.{Small, closedWith, addedWith, inLine};
+ghost use Rattle.sise_serializer.specs.Serializer.{freshSerializer, style, listsFit, lastBreak, isSound, phaseAfter, flagsAfter, Does, place, firstAtom, firstList, newLine, innerAs, inner, close, last, putAtom, beginList, endList, finishWriting};
 
 // The most open lists.
 const DEEPEST: usize = 200;
@@ -262,34 +261,61 @@ impl Serializer {
         }
     }
 
-    // An item in a list, behind `lead` and `times` indentations. Its line had `line` bytes before the indentations.
-    fn item(
+    // An item on a new line of its list, which is broken from then on.
+    fn on_new_line(
         self,
         token: &[u8],
         is_list: bool,
-        lead: &[u8],
-        times: usize,
+        line_break: &[u8],
         indentation: &[u8],
         buf: &mut [u8],
-        flags: [bool; 200],
-        line: usize,
-        spaces: usize,
-        breaks: usize,
     ) -> Wrote
-        requires { ⌜ (Small self × (line ≤ limit + 1) × (times ≤ 200)) × («is_list» ≡ true → self .lists < 200) ⌝ }
-        ensures { λ r. ⌜ Does (place (length (now (buf .entry))) self (itemWith self (now (token .entry)) «is_list» (now (lead .entry) ++ repeat times (now (indentation .entry))) flags (line + times * length (now (indentation .entry))) spaces breaks (self .indents + times))) self (now (buf .entry)) r (now (buf .exit)) ⌝ }
+        requires { ⌜ (Small self × (0 < self .lists)) × («is_list» ≡ true → self .lists < 200) ⌝ }
+        ensures { λ r. ⌜ Does (place (length (now (buf .entry))) self (innerAs (style (now («line_break» .entry)) (now (indentation .entry))) self (now (token .entry)) «is_list» newLine)) self (now (buf .entry)) r (now (buf .exit)) ⌝ }
     {
         let position = self.position;
-        match place(buf, position, lead, times, indentation, token) {
+        let lists = self.lists;
+        let mut flags = self.line_broken;
+        match place(buf, position, line_break, lists, indentation, token) {
+            Spot::At(at, end) => {
+                flags[lists - 1] = true;
+                Wrote {
+                    serializer: self.added(
+                        is_list,
+                        flags,
+                        end,
+                        lists * indentation.len() + token.len(),
+                        self.spaces,
+                        self.breaks + 1,
+                        self.indents + lists,
+                    ),
+                    answer: Put::At(at),
+                }
+            }
+            Spot::NoRoom => Wrote {
+                serializer: self,
+                answer: Put::NoRoom,
+            },
+        }
+    }
+
+    // An item in the same line, behind `lead`: a space or nothing.
+    fn in_line(self, token: &[u8], is_list: bool, lead: &[u8], buf: &mut [u8]) -> Wrote
+        requires { ⌜ (Small self × (length (now lead) ≤ 1)) × («is_list» ≡ true → self .lists < 200) ⌝ }
+        ensures { λ r. ⌜ Does (place (length (now (buf .entry))) self (inLine self (now (token .entry)) «is_list» (now (lead .entry)))) self (now (buf .entry)) r (now (buf .exit)) ⌝ }
+    {
+        let position = self.position;
+        let flags = self.line_broken;
+        match place(buf, position, lead, 0, b"", token) {
             Spot::At(at, end) => Wrote {
                 serializer: self.added(
                     is_list,
                     flags,
                     end,
-                    line + times * indentation.len() + token.len(),
-                    spaces,
-                    breaks,
-                    self.indents + times,
+                    self.line_len + lead.len() + token.len(),
+                    self.spaces + lead.len(),
+                    self.breaks,
+                    self.indents,
                 ),
                 answer: Put::At(at),
             },
@@ -313,51 +339,13 @@ impl Serializer {
         requires { ⌜ (Small self × (0 < self .lists)) × («is_list» ≡ true → self .lists < 200) ⌝ }
         ensures { λ r. ⌜ Does (place (length (now (buf .entry))) self (inner (style (now («line_break» .entry)) (now (indentation .entry))) self (now (token .entry)) «is_list» «break_line_at»)) self (now (buf .entry)) r (now (buf .exit)) ⌝ }
     {
-        let lists = self.lists;
-        let mut flags = self.line_broken;
-        let line = self.line_len;
-        let spaces = self.spaces;
-        let breaks = self.breaks;
-        if break_line_at <= line as u64 {
-            flags[lists - 1] = true;
-            self.item(
-                token,
-                is_list,
-                line_break,
-                lists,
-                indentation,
-                buf,
-                flags,
-                0,
-                spaces,
-                breaks + 1,
-            )
+        let line = self.line_len as u64;
+        if break_line_at <= line {
+            self.on_new_line(token, is_list, line_break, indentation, buf)
         } else if self.list_beginning {
-            self.item(
-                token,
-                is_list,
-                b"",
-                0,
-                indentation,
-                buf,
-                flags,
-                line,
-                spaces,
-                breaks,
-            )
+            self.in_line(token, is_list, b"", buf)
         } else {
-            self.item(
-                token,
-                is_list,
-                b" ",
-                0,
-                indentation,
-                buf,
-                flags,
-                line + 1,
-                spaces + 1,
-                breaks,
-            )
+            self.in_line(token, is_list, b" ", buf)
         }
     }
 
