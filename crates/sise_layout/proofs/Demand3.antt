@@ -6,12 +6,12 @@ use native.Mathlib.Omega.{arith}
 use mathlib.Core.Path.{_≡_, refl, sym, ap, ap₂, _∙_, subst}
 use mathlib.Core.List.{List, [], _∷_, _++_, map}
 use lib.ListN.{length, take, drop, replicate}
-use Rattle.sise_parser.specs.Reader.{Answer, freshReader, refusedWith}
+use Rattle.sise_parser.specs.Reader.{Answer, freshReader, refusedWith, answersFrom}
 use Rattle.sise_serializer.specs.Serializer.{Style, freshSerializer}
 use Rattle.sise_serializer.specs.declared.serializer.Phase.the-variants.{Done}
 use Rattle.sise_serializer.specs.declared.serializer.Serializer.{Serializer}
 use Rattle.sise_layout.specs.Calls.{Call, Item, atom, listStart, listEnd, Placed, placed, itemsOf, writing, Finishes, textOf, Blank}
-use Rattle.sise_layout.specs.Reading.{answersFrom, asRead, Stands, All, none, more, Gives, itemRead, itemsRead}
+use Rattle.sise_layout.specs.Reading.{asRead, Stands, All, none, more, Gives, itemRead, itemsRead}
 use Rattle.sise_layout.specs.Nodes.{Node}
 use Rattle.sise_layout.specs.Claim.{Holds}
 use Rattle.sise_serializer.specs.Examples.{house}

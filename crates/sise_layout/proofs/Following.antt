@@ -6,10 +6,10 @@ use mathlib.Core.Path.{_≡_, refl, sym, ap, _∙_}
 use mathlib.Core.List.{List, [], _∷_, _++_, map}
 use lib.ListN.{length, take, replicate}
 use Rattle.sise_parser.specs.Refusals.{refusal}
-use Rattle.sise_parser.specs.Reader.{Answer, Next, freshReader, next, nextItem, refusedWith, finishReading, ended, notEnded, afterCalls}
+use Rattle.sise_parser.specs.Reader.{Answer, Next, answersFrom, freshReader, next, nextItem, refusedWith, finishReading, ended, notEnded, afterCalls}
 use Rattle.sise_parser.specs.declared.reader.Reader.{Reader}
 use Rattle.sise_layout.specs.Calls.{Placed}
-use Rattle.sise_layout.specs.Reading.{answersFrom, asRead, Stands, All, none, more, Gives}
+use Rattle.sise_layout.specs.Reading.{asRead, Stands, All, none, more, Gives}
 
 -- from r on, reading the text gives exactly these items, and then the end
 pub data Follows (text : List ℕ) : Reader → List Placed → Type 0 where

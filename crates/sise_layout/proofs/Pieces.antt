@@ -326,7 +326,7 @@ module _ (s : Style) (w : Serializer) (i : Aligned w) (f : w .phase ≡ Writing)
 
   close-apart : (b : Bool) → Blank s → (r : List ℕ) → stops (cond b (newLineOf s (w .lists - 1)) [] ++ 41 ∷ [] ++ r) ≡ true
   unfolding classOf
-  close-apart true b r = rw append-assoc (newLine-stops s (w .lists - 1) (41 ∷ r) b)
+  close-apart true b r = rw (append-assoc (newLineOf s (w .lists - 1))) (newLine-stops s (w .lists - 1) (41 ∷ r) b)
   close-apart false b r = refl
 
   close-paid : (b : Bool) → length (closeAs s w b .layout) + 1 + layoutOf s w + (w .lists - 1) ≡ layoutOf s (closeAs s w b .after) + w .lists

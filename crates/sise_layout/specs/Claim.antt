@@ -4,10 +4,10 @@ use Prim.Native.Nat.{ℕ, _+_, _*_}
 use mathlib.Core.Path.{_≡_}
 use mathlib.Core.List.{List}
 use lib.ListN.{length, take}
-use Rattle.sise_parser.specs.Reader.{freshReader}
+use Rattle.sise_parser.specs.Reader.{freshReader, answersFrom}
 use Rattle.sise_serializer.specs.Serializer.{Style}
 use Rattle.sise_layout.specs.Calls.{Call, Item, Run, writing, itemsOf, textOf, atomBytes, lists}
-use Rattle.sise_layout.specs.Reading.{Gives, answersFrom, itemsRead}
+use Rattle.sise_layout.specs.Reading.{Gives, itemsRead}
 use Rattle.sise_layout.specs.Nodes.{Node}
 
 -- the length of a text by its items and "the three counts ... in the record returned"

@@ -7,15 +7,10 @@ use mathlib.Core.List.{List, [], _∷_, _++_, map}
 use lib.ListN.{length, take, drop, replicate}
 use Rattle.sise_parser.specs.Refusals.{refusal}
 use Rattle.sise_parser.specs.Reader as reader
-use Rattle.sise_parser.specs.Reader.{freshReader, nextItem, finishReading, refusedWith, ended, notEnded, afterCalls}
+use Rattle.sise_parser.specs.Reader.{freshReader, answersFrom, finishReading, refusedWith, ended, notEnded, afterCalls}
 use Rattle.sise_parser.specs.declared.reader.Reader.{Reader}
 use Rattle.sise_parser.specs.declared.reader.ParsedItem.the-variants.{Atom, ListStart, ListEnd}
 use Rattle.sise_layout.specs.Calls.{Item, atom, listStart, listEnd, Placed}
-
--- the answers of k calls from a record on, "each with the record that the last one left"
-unfoldable pub answersFrom : List ℕ → Reader → ℕ → List reader.Answer
-answersFrom text r zero = []
-answersFrom text r (suc k) = nextItem text r .answer ∷ answersFrom text (nextItem text r .reader) k
 
 -- the answer that an item is: "the kind, the place that the writer answered, for an atom its length"
 unfoldable pub asRead : Placed → reader.Answer

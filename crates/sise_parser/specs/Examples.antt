@@ -8,7 +8,7 @@ use Rattle.sise_util.specs.Classes.{classOf}
 use Rattle.sise_util.specs.Utf8.{character, byRows, forms, follow}
 use Rattle.sise_parser.specs.Refusals.{Refusal, refusal}
 use Rattle.sise_parser.specs.Lexer.{wrong, between, comment, plain, string, escape}
-use Rattle.sise_parser.specs.Reader.{Answer, item, refused, Next, freshReader, isSound, tokenAt, inBeginning, inParsing, nextIn, nextItem, afterCalls, Ending, ended, notEnded, endsAt, finishIn, finishReading}
+use Rattle.sise_parser.specs.Reader.{Answer, item, refused, Next, freshReader, isSound, tokenAt, inBeginning, inParsing, nextIn, nextItem, afterCalls, answersFrom, Ending, ended, notEnded, endsAt, finishIn, finishReading}
 use Rattle.sise_parser.specs.declared.reader.Reader.{Reader}
 use Rattle.sise_parser.specs.declared.reader.ParsedItem.{ParsedItem}
 use Rattle.sise_parser.specs.declared.reader.ParsedItem.the-variants.{Atom, ListStart, ListEnd}
@@ -72,11 +72,7 @@ escape-at-end = refl
 unfoldable pub workedText : List ℕ
 workedText = 40 ∷ 122 ∷ 32 ∷ 40 ∷ 43 ∷ 49 ∷ 32 ∷ 34 ∷ 97 ∷ 32 ∷ 98 ∷ 34 ∷ 41 ∷ 32 ∷ 126 ∷ 41 ∷ []
 
-unfoldable pub answers : List ℕ → ℕ → Reader → List Answer
-answers text zero r = []
-answers text (suc k) r = nextItem text r .answer ∷ answers text k (nextItem text r .reader)
-
-pub worked-items : answers workedText 8 freshReader ≡
+pub worked-items : answersFrom workedText freshReader 8 ≡
     item (ListStart 0) ∷
     item (Atom 1 1) ∷
     item (ListStart 3) ∷
@@ -86,7 +82,7 @@ pub worked-items : answers workedText 8 freshReader ≡
     item (Atom 14 1) ∷
     item (ListEnd 15) ∷
     []
-unfolding workedText answers asked finishAfter afterCalls nextItem nextIn isSound tokenAt inBeginning inParsing finishReading finishIn endsAt between comment plain string escape wrong classOf character byRows forms follow within
+unfolding workedText answersFrom asked finishAfter afterCalls nextItem nextIn isSound tokenAt inBeginning inParsing finishReading finishIn endsAt between comment plain string escape wrong classOf character byRows forms follow within
 worked-items = refl
 
 pub worked-finish : finishAfter workedText 8 ≡ ended

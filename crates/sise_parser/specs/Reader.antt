@@ -2,7 +2,7 @@
 -- Assumes nothing.
 use Prim.Native.Nat.{ℕ, zero, suc, _+_, _-_}
 use mathlib.Core.Bool.{Bool, true, false, _&&_, cond}
-use mathlib.Core.List.{List, []}
+use mathlib.Core.List.{List, [], _∷_}
 use lib.Dec.{leb, eqb}
 use lib.ListN.{length, drop, take}
 use Rattle.sise_parser.specs.Refusals.{Refusal, refusal}
@@ -83,10 +83,15 @@ nextItem text r =
       | false ↦ next r (refusedWith 11)
     ]
 
--- the record after k calls of next_item from a fresh reader, "each with the record that the last one left"
+-- the record after k calls of next_item from a fresh reader
 unfoldable pub afterCalls : List ℕ → ℕ → Reader
 afterCalls text zero = freshReader
 afterCalls text (suc k) = nextItem text (afterCalls text k) .reader
+
+-- the answers of k calls from a record on, "each with the record that the last one left"
+unfoldable pub answersFrom : List ℕ → Reader → ℕ → List Answer
+answersFrom text r zero = []
+answersFrom text r (suc k) = nextItem text r .answer ∷ answersFrom text (nextItem text r .reader) k
 
 -- accepted, or a refusal: "Reader finish consumes the reader"
 pub data Ending : Type 0 where

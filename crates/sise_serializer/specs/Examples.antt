@@ -13,17 +13,26 @@ use Rattle.sise_serializer.specs.Serializer.{Style, style, Answer, refus
 unfoldable pub house : Style
 house = style (10 ∷ []) (32 ∷ 32 ∷ [])
 
--- row 17: `a b`; row 18: end_list on a fresh writer; row 19: `a` put twice; row 22: `ab` into 1 byte; and finish on a fresh writer (row 20)
-rows : List Answer
-rows =
-    putAtom house 9 freshSerializer (97 ∷ 32 ∷ 98 ∷ []) 0 .answer
-    ∷ endList house 9 freshSerializer .answer
-    ∷ putAtom house 9 (putAtom house 9 freshSerializer (97 ∷ []) 0 .serializer) (97 ∷ []) 0 .answer
-    ∷ finishWriting house 9 freshSerializer false .answer
-    ∷ putAtom house 1 freshSerializer (97 ∷ 98 ∷ []) 0 .answer
-    ∷ putAtom house 2 freshSerializer (97 ∷ 98 ∷ []) 0 .answer
-    ∷ []
+-- rows 17 to 19: `a b`; end_list on a fresh writer; `a` put twice
+unfoldable pub rows17to19 : List Answer
+rows17to19 =
+    putAtom house 9 freshSerializer (97 ∷ 32 ∷ 98 ∷ []) 0 .answer ∷
+    endList house 9 freshSerializer .answer ∷
+    putAtom house 9 (putAtom house 9 freshSerializer (97 ∷ []) 0 .serializer) (97 ∷ []) 0 .answer ∷
+    []
 
-rows-hold : rows ≡ refused 17 ∷ refused 18 ∷ refused 19 ∷ refused 20 ∷ refused 22 ∷ accepted 0 ∷ []
-unfolding rows house freshSerializer isSound place firstAtom putIn putAtom endIn endList finishIn finishWriting isAtom outside inside escaped classOf isAtomChr oneOf within
-rows-hold = refl
+pub rows-17-to-19 : rows17to19 ≡ refused 17 ∷ refused 18 ∷ refused 19 ∷ []
+unfolding rows17to19 house freshSerializer isSound place firstAtom putIn putAtom endIn endList isAtom outside inside escaped classOf isAtomChr oneOf within
+rows-17-to-19 = refl
+
+-- rows 20 and 22: finish on a fresh writer; `ab` into 1 byte, and into 2
+rows20and22 : List Answer
+rows20and22 =
+    finishWriting house 9 freshSerializer false .answer ∷
+    putAtom house 1 freshSerializer (97 ∷ 98 ∷ []) 0 .answer ∷
+    putAtom house 2 freshSerializer (97 ∷ 98 ∷ []) 0 .answer ∷
+    []
+
+rows-20-and-22 : rows20and22 ≡ refused 20 ∷ refused 22 ∷ accepted 0 ∷ []
+unfolding rows20and22 house freshSerializer isSound place firstAtom putIn putAtom finishIn finishWriting isAtom outside inside escaped classOf isAtomChr oneOf within
+rows-20-and-22 = refl
