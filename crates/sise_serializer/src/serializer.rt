@@ -26,9 +26,9 @@ pub enum Phase {
 pub struct Serializer {
     pub position: usize,
     pub phase: Phase,
-    // Open lists.
+    // How many lists are open.
     pub lists: usize,
-    // For each open list, outermost first, whether a line was broken in it.
+    // Whether a line was broken in an open list: the outermost list's flag first, and false past the innermost.
     pub line_broken: [bool; 200],
     pub list_beginning: bool,
     pub line_len: usize,
