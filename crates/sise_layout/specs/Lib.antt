@@ -3,3 +3,4 @@ pub mod Reading
 pub mod Nodes
 pub mod Claim
 pub mod Examples
+pub mod Words
