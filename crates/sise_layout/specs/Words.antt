@@ -1,6 +1,6 @@
 -- Lists of the writer's calls as numbers: four words a call, and a word for each answer (document 01, "serializer.rs: the writer").
 -- Assumes nothing.
-use Prim.Native.Nat.{ℕ, _+_}
+use Prim.Native.Nat.{ℕ, _+_, _^_}
 use mathlib.Core.Path.{_≡_}
 use mathlib.Core.Bool.{true, false, cond}
 use mathlib.Core.List.{List, [], _∷_, map}
@@ -37,7 +37,7 @@ callsOf words atoms room = take room (decoded words atoms)
 -- an answer's word: the offset, which is at most 16,777,216, or 2 ^ 32 and the refusal's number
 abbrev pub answerWord : Answer → ℕ
 answerWord (accepted o) = o
-answerWord (refused n) = 4294967296 + n
+answerWord (refused n) = 2 ^ 32 + n
 
 -- what running the calls cs promises, that began with the words `before` for answers and ended with the record w after n calls, the buffer `bytes` and
 -- the words `now`: it does as r says

@@ -6,43 +6,28 @@ use Rattle.sise_layout.proofs.Running.{call-atom, call-begin, call-end,
 use borrow.Author.Needs.{needs}
 use Rattle.sise_layout.proofs.calls.run_call.Statement.{statement}
 use Rattle.sise_layout.proofs.calls.run_call.Tie as tie
-use Rattle.sise_layout.proofs.calls.run_call.Reads as reads
-use Rattle.sise_layout.proofs.calls.run_call.Lts as lts
-use Rattle.sise_parser.proofs.atom_bytes.Reads as atom-bytes-reads
-use Rattle.sise_serializer.proofs.serializer.Serializer.begin_list.Reads as begin-list-reads
-use Rattle.sise_serializer.proofs.serializer.Serializer.end_list.Reads as end-list-reads
-use Rattle.sise_serializer.proofs.serializer.Serializer.finish.Reads as finish-reads
-use Rattle.sise_serializer.proofs.serializer.Serializer.put_atom.Reads as put-atom-reads
 
--- src/calls.rt:49:13
 atom-bytes-requires : tie.Need-atom-bytes-requires
 atom-bytes-requires c κs = search needs
 
--- src/calls.rt:50:9
 put-atom-requires : tie.Need-put-atom-requires
 put-atom-requires c κs = search needs
 
--- src/calls.rt:52:9
 begin-list-requires : tie.Need-begin-list-requires
 begin-list-requires c κs = search needs
 
--- src/calls.rt:54:9
 end-list-requires : tie.Need-end-list-requires
 end-list-requires c κs = search needs
 
--- src/calls.rt:56:9
 finish-requires : tie.Need-finish-requires
 finish-requires c κs = search needs
 
--- src/calls.rt:58:9
 finish-requires-2 : tie.Need-finish-requires-2
 finish-requires-2 c κs = search needs
 
--- src/calls.rt:35:1
 same-length : tie.Need-same-length
 same-length c = search needs
 
--- src/calls.rt:35:1
 returns : tie.Need-returns
 unfolding step
 returns c =
@@ -50,44 +35,36 @@ returns c =
     let part = c .before .before .before .before .atom-bytes .ensures in
     rw (call-atom (a .atoms .now) (a .kind) (a .place) (a .len) (a .threshold) (c .before .before .before .before .before .if1 .taken), ← part) (c .before .before .put-atom .ensures)
 
--- src/calls.rt:35:1
 same-length-2 : tie.Need-same-length-2
 same-length-2 c = search needs
 
--- src/calls.rt:35:1
 returns-2 : tie.Need-returns-2
 unfolding step
 returns-2 c =
     let a = c .before .before .before .before .before .before .before .before .before .before .args in
     rw (call-begin (a .atoms .now) (a .kind) (a .place) (a .len) (a .threshold) (c .before .before .before .before .before .if1 .left) (c .before .before .before .before .if2 .taken)) (c .before .before .begin-list .ensures)
 
--- src/calls.rt:35:1
 same-length-3 : tie.Need-same-length-3
 same-length-3 c = search needs
 
--- src/calls.rt:35:1
 returns-3 : tie.Need-returns-3
 unfolding step
 returns-3 c =
     let a = c .before .before .before .before .before .before .before .before .before .before .before .args in
     rw (call-end (a .atoms .now) (a .kind) (a .place) (a .len) (a .threshold) (c .before .before .before .before .before .before .if1 .left) (c .before .before .before .before .before .if2 .left) (c .before .before .before .before .if3 .taken)) (c .before .before .end-list .ensures)
 
--- src/calls.rt:35:1
 same-length-4 : tie.Need-same-length-4
 same-length-4 c = search needs
 
--- src/calls.rt:35:1
 returns-4 : tie.Need-returns-4
 unfolding step
 returns-4 c =
     let a = c .before .before .before .before .before .before .before .before .before .before .before .before .args in
     rw (call-finish (a .atoms .now) (a .kind) (a .place) (a .len) (a .threshold) (c .before .before .before .before .before .before .before .if1 .left) (c .before .before .before .before .before .before .if2 .left) (c .before .before .before .before .before .if3 .left) (c .before .before .before .before .if4 .taken)) (c .before .before .finish .ensures)
 
--- src/calls.rt:35:1
 same-length-5 : tie.Need-same-length-5
 same-length-5 c = search needs
 
--- src/calls.rt:35:1
 returns-5 : tie.Need-returns-5
 unfolding step
 returns-5 c =

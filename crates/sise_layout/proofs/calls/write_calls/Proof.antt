@@ -9,11 +9,6 @@ use Rattle.sise_serializer.specs.Serializer.{style}
 use Rattle.sise_layout.proofs.Running.{Left, start, full, short, malformed, on}
 use Rattle.sise_layout.proofs.calls.write_calls.Statement.{statement}
 use Rattle.sise_layout.proofs.calls.write_calls.Tie as tie
-use Rattle.sise_layout.proofs.calls.write_calls.Reads as reads
-use Rattle.sise_layout.proofs.calls.write_calls.Lts as lts
-use Rattle.sise_layout.proofs.calls.put_word.Reads as put-word-reads
-use Rattle.sise_layout.proofs.calls.run_call.Reads as run-call-reads
-use Rattle.sise_serializer.proofs.serializer.Serializer.new.Reads as new-reads
 
 abbrev Inv-loop : tie.InvT-loop
 Inv-loop words atoms line-break indentation buf₀ answers₀ w₀ k₀ at₀ buf answers w k at = Left (style line-break indentation) words atoms buf₀ answers₀ buf answers w k at
@@ -21,127 +16,96 @@ Inv-loop words atoms line-break indentation buf₀ answers₀ w₀ k₀ at₀ bu
 abbrev μ-loop : tie.MeasureT-loop
 μ-loop words atoms line-break indentation buf₀ answers₀ w₀ k₀ at₀ buf answers w k at = length answers₀ - k
 
--- src/calls.rt:74:9
 new-requires : tie.Need-new-requires Inv-loop μ-loop
 new-requires c κs = search needs
 
--- src/calls.rt:77:5
 loop-holds : tie.Need-loop-holds Inv-loop μ-loop
 loop-holds c = start _ _ _ _ _ _ (c .new .ensures)
 
--- src/calls.rt:79:13
 same-length : tie.Need-same-length Inv-loop μ-loop
 same-length c = search needs
 
--- src/calls.rt:79:13
 same-length-2 : tie.Need-same-length-2 Inv-loop μ-loop
 same-length-2 c = search needs
 
--- src/calls.rt:79:13
 returns : tie.Need-returns Inv-loop μ-loop
 returns c = full (c .before .loop .inv) (c .if1 .taken)
 
--- src/calls.rt:81:12
 sub-if2 : tie.Need-sub-if2 Inv-loop μ-loop
 sub-if2 c = search needs
 
--- src/calls.rt:82:13
 same-length-3 : tie.Need-same-length-3 Inv-loop μ-loop
 same-length-3 c = search needs
 
--- src/calls.rt:82:13
 same-length-4 : tie.Need-same-length-4 Inv-loop μ-loop
 same-length-4 c = search needs
 
--- src/calls.rt:82:13
 returns-2 : tie.Need-returns-2 Inv-loop μ-loop
 returns-2 c = short (c .before .before .loop .inv) (c .if2 .taken)
 
--- src/calls.rt:84:20
 mul-kind : tie.Need-mul-kind Inv-loop μ-loop
 mul-kind c = search needs
 
--- src/calls.rt:84:20
 shared-slice-read-kind : tie.Need-shared-slice-read-kind Inv-loop μ-loop
 shared-slice-read-kind c = search needs
 
--- src/calls.rt:86:13
 same-length-5 : tie.Need-same-length-5 Inv-loop μ-loop
 same-length-5 c = search needs
 
--- src/calls.rt:86:13
 same-length-6 : tie.Need-same-length-6 Inv-loop μ-loop
 same-length-6 c = search needs
 
--- src/calls.rt:86:13
 returns-3 : tie.Need-returns-3 Inv-loop μ-loop
 returns-3 c = malformed (c .before .before .before .before .loop .inv) (c .before .before .if2 .left) (c .if3 .taken)
 
--- src/calls.rt:91:19
 add-run-call : tie.Need-add-run-call Inv-loop μ-loop
 add-run-call c = search needs
 
--- src/calls.rt:91:13
 mul-run-call : tie.Need-mul-run-call Inv-loop μ-loop
 mul-run-call c = search needs
 
--- src/calls.rt:91:13
 shared-slice-read-run-call : tie.Need-shared-slice-read-run-call Inv-loop μ-loop
 shared-slice-read-run-call c = search needs
 
--- src/calls.rt:92:19
 add-run-call-2 : tie.Need-add-run-call-2 Inv-loop μ-loop
 add-run-call-2 c = search needs
 
--- src/calls.rt:92:13
 mul-run-call-2 : tie.Need-mul-run-call-2 Inv-loop μ-loop
 mul-run-call-2 c = search needs
 
--- src/calls.rt:92:13
 shared-slice-read-run-call-2 : tie.Need-shared-slice-read-run-call-2 Inv-loop μ-loop
 shared-slice-read-run-call-2 c = search needs
 
--- src/calls.rt:93:19
 add-run-call-3 : tie.Need-add-run-call-3 Inv-loop μ-loop
 add-run-call-3 c = search needs
 
--- src/calls.rt:93:13
 mul-run-call-3 : tie.Need-mul-run-call-3 Inv-loop μ-loop
 mul-run-call-3 c = search needs
 
--- src/calls.rt:93:13
 shared-slice-read-run-call-3 : tie.Need-shared-slice-read-run-call-3 Inv-loop μ-loop
 shared-slice-read-run-call-3 c = search needs
 
--- src/calls.rt:88:13
 run-call-requires : tie.Need-run-call-requires Inv-loop μ-loop
 run-call-requires c κs = search needs
 
--- src/calls.rt:100:22
 put-word-requires : tie.Need-put-word-requires Inv-loop μ-loop
 put-word-requires c κs = search needs
 
--- src/calls.rt:100:9
 mul-answers : tie.Need-mul-answers Inv-loop μ-loop
 mul-answers c = let size = c .before .before .before .before .before .before .before .before .before .before .before .before .before .before .before .before .before .before .before .before .good .1 .1 .1 .1 .1 .0 in search needs
 
--- src/calls.rt:100:9
 slice-write-answers : tie.Need-slice-write-answers Inv-loop μ-loop
 slice-write-answers c = search needs
 
--- src/calls.rt:102:9
 add-k : tie.Need-add-k Inv-loop μ-loop
 add-k c = let size = c .before .before .before .before .before .before .before .before .before .before .before .before .before .before .before .before .before .before .before .before .before .good .1 .1 .1 .1 .1 .0 in search needs
 
--- src/calls.rt:103:9
 add-at : tie.Need-add-at Inv-loop μ-loop
 add-at c = let size = c .before .before .before .before .before .before .before .before .before .before .before .before .before .before .before .before .before .before .before .before .before .good .0 in search needs
 
--- src/calls.rt:77:5
 loop-less : tie.Need-loop-less Inv-loop μ-loop
 loop-less c = search needs
 
--- src/calls.rt:77:5
 loop-again : tie.Need-loop-again Inv-loop μ-loop
 loop-again c =
     on (c .before .before .before .before .before .before .before .before .before .before .before .before .before .loop .inv) (c .before .before .before .before .before .before .before .before .before .before .before .before .if1 .left) (c .before .before .before .before .before .before .before .before .before .before .before .if2 .left) (c .before .before .before .before .before .before .before .before .before .if3 .left) (c .before .before .before .before .run-call .ensures) (c .before .put-word .ensures) (c .before .before .before .before .run-call .kept .1 .1 .1 .1 .1 .1 .1 .1 .0)
