@@ -2,45 +2,44 @@
 -- the rest leaves stays the same.
 -- Assumes nothing.
 use Prim.Native.Nat.{ℕ, zero, suc, _+_, _-_, _≤_, _<_}
-use native.Mathlib.Nat.{add-zero, zero-add, add-assoc}
-use native.Mathlib.Numerals.{add-one}
+use native.Mathlib.Nat.{add-zero, zero-add}
 use native.Mathlib.Omega.{arith}
 use mathlib.Core.Path.{_≡_, refl, sym, ap, _∙_}
-use mathlib.Core.Bool.{Bool, true, false, cond}
+use mathlib.Core.Bool.{Bool, true, false, false≢true, _&&_, cond}
 use mathlib.Core.List.{List, [], _∷_, _++_, map}
-use lib.Dec.{eqb, leb}
+use lib.Dec.{leb}
 use lib.ListN.{length, getD, take, drop, set, length-drop, length-set}
 use lib.Seq.{take-nil, drop-cons, take-suc-set, drop-set-lt, append-snoc}
-use borrow.Author.Tests.{le-leb, lt-leb, eq-eqb, ne-eqb}
+use borrow.Author.Tests.{leb-true, leb-false, le-leb, lt-leb, eq-eqb, ne-eqb}
 use Rattle.sise_parser.specs.Reader.{partOf}
 use Rattle.sise_serializer.specs.Bytes.{pasted}
 use Rattle.sise_serializer.specs.Serializer.{Style, answerAs, Does, freshSerializer}
 use Rattle.sise_serializer.specs.declared.serializer.Serializer.{Serializer}
 use Rattle.sise_serializer.specs.declared.serializer.Wrote.{Wrote}
-use Rattle.sise_layout.specs.Calls.{Call, putAtomCall, beginListCall, endListCall, finishCall, step, Run, run, writing}
-use Rattle.sise_layout.specs.Words.{callOf, decoded, callsOf, answerWord, Runs}
+use Rattle.sise_layout.specs.Calls.{Call, putAtomCall, beginListCall, endListCall, finishCall, step, run, writing}
+use Rattle.sise_layout.specs.Words.{callOf, callAt, hasCall, decoded, callsOf, answerWord, Runs}
 use Rattle.sise_layout.proofs.Refused.{pasted-none}
 
 -- ---- the call of a kind
 
-module _ (atoms : List ℕ) (kind place n t : ℕ) where
-  pub call-atom : kind ≡ 0 → callOf atoms kind place n t ≡ putAtomCall (partOf atoms place n) t
+module _ (words atoms : List ℕ) (at : ℕ) where
+  pub call-atom : getD words at 0 ≡ 0 → callAt words atoms at ≡ putAtomCall (partOf atoms (getD words (at + 1) 0) (getD words (at + 2) 0)) (getD words (at + 3) 0)
   unfolding callOf
   call-atom e = rw (eq-eqb _ _ e)
 
-  pub call-begin : (kind ≡ 0 → ⊥) → kind ≡ 1 → callOf atoms kind place n t ≡ beginListCall t
+  pub call-begin : (getD words at 0 ≡ 0 → ⊥) → getD words at 0 ≡ 1 → callAt words atoms at ≡ beginListCall (getD words (at + 3) 0)
   unfolding callOf
   call-begin a e = rw (ne-eqb _ _ a, eq-eqb _ _ e)
 
-  pub call-end : (kind ≡ 0 → ⊥) → (kind ≡ 1 → ⊥) → kind ≡ 2 → callOf atoms kind place n t ≡ endListCall
+  pub call-end : (getD words at 0 ≡ 0 → ⊥) → (getD words at 0 ≡ 1 → ⊥) → getD words at 0 ≡ 2 → callAt words atoms at ≡ endListCall
   unfolding callOf
   call-end a b e = rw (ne-eqb _ _ a, ne-eqb _ _ b, eq-eqb _ _ e)
 
-  pub call-finish : (kind ≡ 0 → ⊥) → (kind ≡ 1 → ⊥) → (kind ≡ 2 → ⊥) → kind ≡ 3 → callOf atoms kind place n t ≡ finishCall false
+  pub call-finish : (getD words at 0 ≡ 0 → ⊥) → (getD words at 0 ≡ 1 → ⊥) → (getD words at 0 ≡ 2 → ⊥) → getD words at 0 ≡ 3 → callAt words atoms at ≡ finishCall false
   unfolding callOf
   call-finish a b c e = rw (ne-eqb _ _ a, ne-eqb _ _ b, ne-eqb _ _ c, eq-eqb _ _ e)
 
-  pub call-break : (kind ≡ 0 → ⊥) → (kind ≡ 1 → ⊥) → (kind ≡ 2 → ⊥) → (kind ≡ 3 → ⊥) → callOf atoms kind place n t ≡ finishCall true
+  pub call-break : (getD words at 0 ≡ 0 → ⊥) → (getD words at 0 ≡ 1 → ⊥) → (getD words at 0 ≡ 2 → ⊥) → (getD words at 0 ≡ 3 → ⊥) → callAt words atoms at ≡ finishCall true
   unfolding callOf
   call-break a b c d = rw (ne-eqb _ _ a, ne-eqb _ _ b, ne-eqb _ _ c, ne-eqb _ _ d)
 
@@ -57,30 +56,52 @@ decoded-short (a ∷ b ∷ c ∷ d ∷ l) atoms h = absurd (omega arith)
 next : (l : List ℕ) (i j : ℕ) → j ≡ i + 1 → i < length l → drop i l ≡ getD l i 0 ∷ drop j l
 next l i j e h = let z : suc i ≡ j = omega arith in drop-cons l i 0 h ∙ ap (λ (n : ℕ). getD l i 0 ∷ drop n l) z
 
+and-false : {A : Type 0} (x y : Bool) → (x && y) ≡ false → (x ≡ false → A) → (x ≡ true → y ≡ false → A) → A
+and-false true y h f g = g refl h
+and-false false y h f g = f refl
+
+and-true : (x y : Bool) → (x && y) ≡ true → (x ≡ true) × (y ≡ true)
+and-true true y h = (refl, h)
+and-true false y h = absurd (false≢true h)
+
+module _ (words : List ℕ) (at : ℕ) where
+  pub has-short : length words - at < 4 → hasCall words at ≡ false
+  unfolding hasCall
+  has-short h = rw (lt-leb 4 (length words - at) h)
+
+  pub has-kind : 4 ≤ length words - at → hasCall words at ≡ leb (getD words at 0) 4
+  unfolding hasCall
+  has-kind h = rw (le-leb 4 (length words - at) h)
+
+  pub has-room : at ≤ length words → hasCall words at ≡ true → at + 4 ≤ length words
+  unfolding hasCall
+  has-room p h = let e = and-true (leb 4 (length words - at)) (leb (getD words at 0) 4) h .0 in omega (arith, leb-true 4 (length words - at) e)
+
 module _ (words atoms : List ℕ) (at : ℕ) where
-  pub rest-short : length words - at < 4 → decoded (drop at words) atoms ≡ []
-  rest-short h = decoded-short (drop at words) atoms (let e = length-drop at words in omega arith)
+  four : at + 4 ≤ length words → drop at words ≡ getD words at 0 ∷ getD words (at + 1) 0 ∷ getD words (at + 2) 0 ∷ getD words (at + 3) 0 ∷ drop (at + 4) words
+  four room =
+      next words at (at + 1) (omega arith) (omega arith)
+      ∙ ap (λ (l : List ℕ). getD words at 0 ∷ l) (next words (at + 1) (at + 2) (omega arith) (omega arith)
+      ∙ ap (λ (l : List ℕ). getD words (at + 1) 0 ∷ l) (next words (at + 2) (at + 3) (omega arith) (omega arith)
+      ∙ ap (λ (l : List ℕ). getD words (at + 2) 0 ∷ l) (next words (at + 3) (at + 4) (omega arith) (omega arith))))
 
-  module _ (room : at + 4 ≤ length words) where
-    four : drop at words ≡ getD words at 0 ∷ getD words (at + 1) 0 ∷ getD words (at + 2) 0 ∷ getD words (at + 3) 0 ∷ drop (at + 4) words
-    four =
-        next words at (at + 1) (omega arith) (omega arith)
-        ∙ ap (λ (l : List ℕ). getD words at 0 ∷ l) (next words (at + 1) (at + 2) (omega arith) (omega arith)
-        ∙ ap (λ (l : List ℕ). getD words (at + 1) 0 ∷ l) (next words (at + 2) (at + 3) (omega arith) (omega arith)
-        ∙ ap (λ (l : List ℕ). getD words (at + 2) 0 ∷ l) (next words (at + 3) (at + 4) (omega arith) (omega arith))))
+  -- four words there, by whether the first is a kind
+  rest-as : at + 4 ≤ length words → {b : Bool} → leb (getD words at 0) 4 ≡ b → decoded (drop at words) atoms ≡ cond b (callAt words atoms at ∷ decoded (drop (at + 4) words) atoms) []
+  unfolding decoded
+  rest-as room e =
+      ap (λ (l : List ℕ). decoded l atoms) (four room)
+      ∙ ap (λ (b : Bool). cond b (callAt words atoms at ∷ decoded (drop (at + 4) words) atoms) []) e
 
-    pub rest-malformed : 4 < getD words at 0 → decoded (drop at words) atoms ≡ []
-    unfolding decoded
-    rest-malformed h =
-        ap (λ (l : List ℕ). decoded l atoms) four
-        ∙ ap (λ (b : Bool). cond b (callOf atoms (getD words at 0) (getD words (at + 1) 0) (getD words (at + 2) 0) (getD words (at + 3) 0) ∷ decoded (drop (at + 4) words) atoms) []) (lt-leb _ _ h)
+  rest-none : at ≤ length words → hasCall words at ≡ false → decoded (drop at words) atoms ≡ []
+  unfolding hasCall
+  rest-none p h =
+      and-false _ _ h
+      (λ e. decoded-short (drop at words) atoms (rw (length-drop at words) (leb-false 4 (length words - at) e)))
+      (λ e f. rest-as (omega (arith, leb-true 4 (length words - at) e)) f)
 
-    pub rest-call : getD words at 0 ≤ 4 → decoded (drop at words) atoms
-        ≡ callOf atoms (getD words at 0) (getD words (at + 1) 0) (getD words (at + 2) 0) (getD words (at + 3) 0) ∷ decoded (drop (at + 4) words) atoms
-    unfolding decoded
-    rest-call h =
-        ap (λ (l : List ℕ). decoded l atoms) four
-        ∙ ap (λ (b : Bool). cond b (callOf atoms (getD words at 0) (getD words (at + 1) 0) (getD words (at + 2) 0) (getD words (at + 3) 0) ∷ decoded (drop (at + 4) words) atoms) []) (le-leb _ _ h)
+  rest-call : at ≤ length words → hasCall words at ≡ true → decoded (drop at words) atoms ≡ callAt words atoms at ∷ decoded (drop (at + 4) words) atoms
+  unfolding hasCall
+  rest-call p h = rest-as (has-room words at p h) (and-true (leb 4 (length words - at)) _ h .1)
 
 -- ---- answers
 
@@ -165,38 +186,30 @@ module _ {s : Style} {words atoms b₀ a₀ b a : List ℕ} {w : Serializer} {k 
       let z : length a₀ - k ≡ 0 = omega arith in
       finished (ap (λ (n : ℕ). take n (decoded (drop at words) atoms)) z)
 
-  pub short : length words - at < 4 → Runs (writing s b₀ (callsOf words atoms (length a₀))) (callsOf words atoms (length a₀)) a₀ w k b a
-  short h = finished (ap (take (length a₀ - k)) (rest-short words atoms at h) ∙ take-nil (length a₀ - k))
-
-  pub malformed : 4 ≤ length words - at → 4 < getD words at 0 → Runs (writing s b₀ (callsOf words atoms (length a₀))) (callsOf words atoms (length a₀)) a₀ w k b a
-  malformed h m =
-      let p = l .place in
-      finished (ap (take (length a₀ - k)) (rest-malformed words atoms at (omega arith) m) ∙ take-nil (length a₀ - k))
+  pub stopped : hasCall words at ≡ false → Runs (writing s b₀ (callsOf words atoms (length a₀))) (callsOf words atoms (length a₀)) a₀ w k b a
+  stopped h = finished (ap (take (length a₀ - k)) (rest-none words atoms at (l .place) h) ∙ take-nil (length a₀ - k))
 
   -- one call more
-  pub on : {r : Wrote} {bx : List ℕ} {x : ℕ} → k < length a → 4 ≤ length words - at → getD words at 0 ≤ 4
-      → Does (step s (length b) w (callOf atoms (getD words at 0) (getD words (at + 1) 0) (getD words (at + 2) 0) (getD words (at + 3) 0))) w b r bx
-      → x ≡ answerWord (answerAs (r .answer)) → length bx ≡ length b
+  pub on : {r : Wrote} {bx : List ℕ} {x : ℕ} → k < length a → hasCall words at ≡ true
+      → Does (step s (length b) w (callAt words atoms at)) w b r bx → x ≡ answerWord (answerAs (r .answer)) → length bx ≡ length b
       → Left s words atoms b₀ a₀ bx (set a k x) (r .serializer) (k + 1) (at + 4)
-  on {r} {bx} {x} h four good does told keeps =
-      let p = l .place in
-      let i = l .index in
+  on {r} {bx} {x} h has does told keeps =
       let e = l .answers-length in
-      let c = callOf atoms (getD words at 0) (getD words (at + 1) 0) (getD words (at + 2) 0) (getD words (at + 3) 0) in
+      let c = callAt words atoms at in
       let d = step s (length b) w c in
       let cs = take (length a₀ - (k + 1)) (decoded (drop (at + 4) words) atoms) in
       let z : length a₀ - k ≡ suc (length a₀ - (k + 1)) = omega arith in
-      let now : take (length a₀ - k) (decoded (drop at words) atoms) ≡ c ∷ cs = ap (take (length a₀ - k)) (rest-call words atoms at (omega arith) good) ∙ ap (λ (n : ℕ). take n (c ∷ decoded (drop (at + 4) words) atoms)) z in
+      let split : take (length a₀ - k) (decoded (drop at words) atoms) ≡ c ∷ cs = ap (take (length a₀ - k)) (rest-call words atoms at (l .place) has) ∙ ap (λ (n : ℕ). take n (c ∷ decoded (drop (at + 4) words) atoms)) z in
       record {
         same =
           ap (λ (y : List ℕ). final s y (r .serializer) (set a k x) (k + 1) cs) (does .buffer)
           ∙ ap (λ (y : Serializer). final s (pasted b (w .position) (d .bytes)) y (set a k x) (k + 1) cs) (does .serializer)
           ∙ ap (λ (y : ℕ). final s (pasted b (w .position) (d .bytes)) (d .serializer) (set a k y) (k + 1) cs) (told ∙ ap answerWord (does .answer))
           ∙ sym (final-more s b w a k c cs h)
-          ∙ sym (ap (final s b w a k) now)
+          ∙ sym (ap (final s b w a k) split)
           ∙ l .same;
         index = omega arith;
-        place = omega arith;
+        place = has-room words at (l .place) has;
         answers-length = length-set a k x ∙ e;
         buffer-length = keeps ∙ l .buffer-length;
       }

@@ -1,11 +1,11 @@
 -- Lists of the writer's calls as numbers: four words a call, and a word for each answer (document 01, "serializer.rs: the writer").
 -- Assumes nothing.
-use Prim.Native.Nat.{ℕ, _+_, _^_}
+use Prim.Native.Nat.{ℕ, _+_, _-_, _^_}
 use mathlib.Core.Path.{_≡_}
-use mathlib.Core.Bool.{true, false, cond}
+use mathlib.Core.Bool.{Bool, true, false, _&&_, cond}
 use mathlib.Core.List.{List, [], _∷_, map}
 use lib.Dec.{eqb, leb}
-use lib.ListN.{length, take}
+use lib.ListN.{length, getD, take}
 use Rattle.sise_parser.specs.Reader.{partOf}
 use Rattle.sise_serializer.specs.Bytes.{pasted}
 use Rattle.sise_serializer.specs.Serializer.{Answer, accepted, refused}
@@ -21,6 +21,14 @@ callOf atoms kind place n t =
     (cond (eqb kind 2) endListCall
     (cond (eqb kind 3) (finishCall false)
     (finishCall true))))
+
+-- the call whose four words stand at `at`
+abbrev pub callAt : List ℕ → List ℕ → ℕ → Call
+callAt words atoms at = callOf atoms (getD words at 0) (getD words (at + 1) 0) (getD words (at + 2) 0) (getD words (at + 3) 0)
+
+-- whether four words stand at `at`, the first of them a kind
+unfoldable pub hasCall : List ℕ → ℕ → Bool
+hasCall words at = leb 4 (length words - at) && leb (getD words at 0) 4
 
 -- the calls that the words mean: kind, place, length and threshold of each, up to the first kind above 4, or to a rest of fewer than four words
 unfoldable pub decoded : List ℕ → List ℕ → List Call

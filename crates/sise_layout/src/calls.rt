@@ -4,10 +4,11 @@ use sise_serializer::Put;
 use sise_serializer::Serializer;
 use sise_serializer::Wrote;
 ghost use mathlib.Core.Path.{_≡_};
+ghost use Prim.Native.Nat.{_+_, _≤_};
 ghost use lib.ListN.{length};
 ghost use Rattle.sise_serializer.specs.Serializer.{style, answerAs, Does};
 ghost use Rattle.sise_layout.specs.Calls.{step, writing};
-ghost use Rattle.sise_layout.specs.Words.{callOf, callsOf, answerWord, Runs};
+ghost use Rattle.sise_layout.specs.Words.{callAt, hasCall, callsOf, answerWord, Runs};
 
 // The record that the last call left, and how many calls ran.
 pub struct Ran {
@@ -31,20 +32,34 @@ fn put_word(answer: Put) -> u64
     }
 }
 
-// Runs the call that four words mean.
+// Whether a call's four words stand at `at`: they do not if fewer are left, or if the kind is above 4.
+fn has_call(words: &[u64], at: usize) -> bool
+    requires { ⌜ at ≤ length (now words) ⌝ }
+    ensures { λ r. ⌜ r ≡ hasCall (now (words .entry)) at ⌝ }
+{
+    if words.len() - at < 4 {
+        return false;
+    }
+    words[at] <= 4
+}
+
+// Runs the call whose four words stand at `at`.
 fn run_call(
     w: Serializer,
-    kind: u64,
-    place: u64,
-    len: u64,
-    threshold: u64,
+    words: &[u64],
+    at: usize,
     atoms: &[u8],
     line_break: &[u8],
     indentation: &[u8],
     buf: &mut [u8],
 ) -> Wrote
-    ensures { λ r. ⌜ Does (step (style (now («line_break» .entry)) (now (indentation .entry))) (length (now (buf .entry))) w (callOf (now (atoms .entry)) kind place len threshold)) w (now (buf .entry)) r (now (buf .exit)) ⌝ }
+    requires { ⌜ at + 4 ≤ length (now words) ⌝ }
+    ensures { λ r. ⌜ Does (step (style (now («line_break» .entry)) (now (indentation .entry))) (length (now (buf .entry))) w (callAt (now (words .entry)) (now (atoms .entry)) at)) w (now (buf .entry)) r (now (buf .exit)) ⌝ }
 {
+    let kind = words[at];
+    let place = words[at + 1];
+    let len = words[at + 2];
+    let threshold = words[at + 3];
     if kind == 0 {
         let atom = atom_bytes(atoms, place as usize, len as usize);
         w.put_atom(line_break, indentation, buf, atom, threshold)
@@ -74,32 +89,16 @@ pub fn write_calls(
     let mut w = Serializer::new();
     let mut k = 0;
     let mut at = 0;
-    loop {
-        if answers.len() <= k {
-            return Ran { serializer: w, calls: k };
-        }
-        if words.len() - at < 4 {
-            return Ran { serializer: w, calls: k };
-        }
-        let kind = words[at];
-        if 4 < kind {
-            return Ran { serializer: w, calls: k };
-        }
-        let wrote = run_call(
-            w,
-            kind,
-            words[at + 1],
-            words[at + 2],
-            words[at + 3],
-            atoms,
-            line_break,
-            indentation,
-            buf,
-        );
+    while k < answers.len() && has_call(words, at) {
+        let wrote = run_call(w, words, at, atoms, line_break, indentation, buf);
         let answer = wrote.answer;
         answers[k] = put_word(answer);
         w = wrote.serializer;
         k += 1;
         at += 4;
+    }
+    Ran {
+        serializer: w,
+        calls: k,
     }
 }

@@ -1,11 +1,43 @@
 -- Each branch is the call that its kind means, on the bytes that the words name.
 -- Assumes nothing.
-use mathlib.Core.Path.{_≡_, sym, ap}
 use Rattle.sise_layout.specs.Calls.{step}
 use Rattle.sise_layout.proofs.Running.{call-atom, call-begin, call-end, call-finish, call-break}
 use borrow.Author.Needs.{needs}
 use Rattle.sise_layout.proofs.calls.run_call.Statement.{statement}
 use Rattle.sise_layout.proofs.calls.run_call.Tie as tie
+
+mul-kind : tie.Need-mul-kind
+mul-kind c = search needs
+
+shared-slice-read-kind : tie.Need-shared-slice-read-kind
+shared-slice-read-kind c = search needs
+
+add-place : tie.Need-add-place
+add-place c = search needs
+
+mul-place : tie.Need-mul-place
+mul-place c = search needs
+
+shared-slice-read-place : tie.Need-shared-slice-read-place
+shared-slice-read-place c = search needs
+
+add-len : tie.Need-add-len
+add-len c = search needs
+
+mul-len : tie.Need-mul-len
+mul-len c = search needs
+
+shared-slice-read-len : tie.Need-shared-slice-read-len
+shared-slice-read-len c = search needs
+
+add-threshold : tie.Need-add-threshold
+add-threshold c = search needs
+
+mul-threshold : tie.Need-mul-threshold
+mul-threshold c = search needs
+
+shared-slice-read-threshold : tie.Need-shared-slice-read-threshold
+shared-slice-read-threshold c = search needs
 
 atom-bytes-requires : tie.Need-atom-bytes-requires
 atom-bytes-requires c κs = search needs
@@ -31,9 +63,9 @@ same-length c = search needs
 returns : tie.Need-returns
 unfolding step
 returns c =
-    let a = c .before .before .before .before .before .before .before .before .before .before .args in
-    let part = c .before .before .before .before .atom-bytes .ensures in
-    rw (call-atom (a .atoms .now) (a .kind) (a .place) (a .len) (a .threshold) (c .before .before .before .before .before .if1 .taken), ← part) (c .before .before .put-atom .ensures)
+    let test = c .before .before .before .before .before in
+    let a = test .before .before .before .before .before .before .before .before .before .before .args in
+    rw (call-atom (a .words .now) (a .atoms .now) (a .at) (test .if1 .taken), ← c .before .before .before .before .atom-bytes .ensures) (c .before .before .put-atom .ensures)
 
 same-length-2 : tie.Need-same-length-2
 same-length-2 c = search needs
@@ -41,8 +73,10 @@ same-length-2 c = search needs
 returns-2 : tie.Need-returns-2
 unfolding step
 returns-2 c =
-    let a = c .before .before .before .before .before .before .before .before .before .before .args in
-    rw (call-begin (a .atoms .now) (a .kind) (a .place) (a .len) (a .threshold) (c .before .before .before .before .before .if1 .left) (c .before .before .before .before .if2 .taken)) (c .before .before .begin-list .ensures)
+    let test2 = c .before .before .before .before in
+    let test1 = test2 .before in
+    let a = test1 .before .before .before .before .before .before .before .before .before .before .args in
+    rw (call-begin (a .words .now) (a .atoms .now) (a .at) (test1 .if1 .left) (test2 .if2 .taken)) (c .before .before .begin-list .ensures)
 
 same-length-3 : tie.Need-same-length-3
 same-length-3 c = search needs
@@ -50,8 +84,11 @@ same-length-3 c = search needs
 returns-3 : tie.Need-returns-3
 unfolding step
 returns-3 c =
-    let a = c .before .before .before .before .before .before .before .before .before .before .before .args in
-    rw (call-end (a .atoms .now) (a .kind) (a .place) (a .len) (a .threshold) (c .before .before .before .before .before .before .if1 .left) (c .before .before .before .before .before .if2 .left) (c .before .before .before .before .if3 .taken)) (c .before .before .end-list .ensures)
+    let test3 = c .before .before .before .before in
+    let test2 = test3 .before in
+    let test1 = test2 .before in
+    let a = test1 .before .before .before .before .before .before .before .before .before .before .args in
+    rw (call-end (a .words .now) (a .atoms .now) (a .at) (test1 .if1 .left) (test2 .if2 .left) (test3 .if3 .taken)) (c .before .before .end-list .ensures)
 
 same-length-4 : tie.Need-same-length-4
 same-length-4 c = search needs
@@ -59,8 +96,12 @@ same-length-4 c = search needs
 returns-4 : tie.Need-returns-4
 unfolding step
 returns-4 c =
-    let a = c .before .before .before .before .before .before .before .before .before .before .before .before .args in
-    rw (call-finish (a .atoms .now) (a .kind) (a .place) (a .len) (a .threshold) (c .before .before .before .before .before .before .before .if1 .left) (c .before .before .before .before .before .before .if2 .left) (c .before .before .before .before .before .if3 .left) (c .before .before .before .before .if4 .taken)) (c .before .before .finish .ensures)
+    let test4 = c .before .before .before .before in
+    let test3 = test4 .before in
+    let test2 = test3 .before in
+    let test1 = test2 .before in
+    let a = test1 .before .before .before .before .before .before .before .before .before .before .args in
+    rw (call-finish (a .words .now) (a .atoms .now) (a .at) (test1 .if1 .left) (test2 .if2 .left) (test3 .if3 .left) (test4 .if4 .taken)) (c .before .before .finish .ensures)
 
 same-length-5 : tie.Need-same-length-5
 same-length-5 c = search needs
@@ -68,13 +109,28 @@ same-length-5 c = search needs
 returns-5 : tie.Need-returns-5
 unfolding step
 returns-5 c =
-    let a = c .before .before .before .before .before .before .before .before .before .before .before .before .args in
-    rw (call-break (a .atoms .now) (a .kind) (a .place) (a .len) (a .threshold) (c .before .before .before .before .before .before .before .if1 .left) (c .before .before .before .before .before .before .if2 .left) (c .before .before .before .before .before .if3 .left) (c .before .before .before .before .if4 .left)) (c .before .before .finish2 .ensures)
+    let test4 = c .before .before .before .before in
+    let test3 = test4 .before in
+    let test2 = test3 .before in
+    let test1 = test2 .before in
+    let a = test1 .before .before .before .before .before .before .before .before .before .before .args in
+    rw (call-break (a .words .now) (a .atoms .now) (a .at) (test1 .if1 .left) (test2 .if2 .left) (test3 .if3 .left) (test4 .if4 .left)) (c .before .before .finish2 .ensures)
 
 pub run-call-spec : {M : Type 1} → statement M
 run-call-spec =
     tie.close
     (tie.spec
+    mul-kind
+    shared-slice-read-kind
+    add-place
+    mul-place
+    shared-slice-read-place
+    add-len
+    mul-len
+    shared-slice-read-len
+    add-threshold
+    mul-threshold
+    shared-slice-read-threshold
     atom-bytes-requires
     put-atom-requires
     begin-list-requires
