@@ -202,12 +202,12 @@ module _ {s : Style} {words atoms b₀ a₀ b a : List ℕ} {w : Serializer} {k 
       let split : take (length a₀ - k) (decoded (drop at words) atoms) ≡ c ∷ cs = ap (take (length a₀ - k)) (rest-call words atoms at (l .place) has) ∙ ap (λ (n : ℕ). take n (c ∷ decoded (drop (at + 4) words) atoms)) z in
       record {
         same =
-          ap (λ (y : List ℕ). final s y (r .serializer) (set a k x) (k + 1) cs) (does .buffer)
-          ∙ ap (λ (y : Serializer). final s (pasted b (w .position) (d .bytes)) y (set a k x) (k + 1) cs) (does .serializer)
-          ∙ ap (λ (y : ℕ). final s (pasted b (w .position) (d .bytes)) (d .serializer) (set a k y) (k + 1) cs) (told ∙ ap answerWord (does .answer))
-          ∙ sym (final-more s b w a k c cs h)
-          ∙ sym (ap (final s b w a k) split)
-          ∙ l .same;
+            ap (λ (y : List ℕ). final s y (r .serializer) (set a k x) (k + 1) cs) (does .buffer)
+            ∙ ap (λ (y : Serializer). final s (pasted b (w .position) (d .bytes)) y (set a k x) (k + 1) cs) (does .serializer)
+            ∙ ap (λ (y : ℕ). final s (pasted b (w .position) (d .bytes)) (d .serializer) (set a k y) (k + 1) cs) (told ∙ ap answerWord (does .answer))
+            ∙ sym (final-more s b w a k c cs h)
+            ∙ sym (ap (final s b w a k) split)
+            ∙ l .same;
         index = omega arith;
         place = has-room words at (l .place) has;
         answers-length = length-set a k x ∙ e;
