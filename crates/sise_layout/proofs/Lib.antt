@@ -12,3 +12,4 @@ pub mod Buffers
 pub mod Demand3
 pub mod Sound
 pub mod Refused
+pub mod Running

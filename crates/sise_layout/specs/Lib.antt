@@ -2,5 +2,6 @@ pub mod Calls
 pub mod Reading
 pub mod Nodes
 pub mod Claim
+pub mod Words
 pub mod Examples
 pub mod Rows

@@ -1,0 +1,215 @@
+-- What is left of a list of calls while it runs: each call's words are taken from the front, and its answer's word is set at its index, so what running
+-- the rest leaves stays the same.
+-- Assumes nothing.
+use Prim.Native.Nat.{ℕ, zero, suc, _+_, _-_, _≤_, _<_}
+use native.Mathlib.Nat.{add-zero, zero-add}
+use native.Mathlib.Omega.{arith}
+use mathlib.Core.Path.{_≡_, refl, sym, ap, _∙_}
+use mathlib.Core.Bool.{Bool, true, false, false≢true, _&&_, cond}
+use mathlib.Core.List.{List, [], _∷_, _++_, map}
+use lib.Dec.{leb}
+use lib.ListN.{length, getD, take, drop, set, length-drop, length-set}
+use lib.Seq.{take-nil, drop-cons, take-suc-set, drop-set-lt, append-snoc}
+use borrow.Author.Tests.{leb-true, leb-false, le-leb, lt-leb, eq-eqb, ne-eqb}
+use Rattle.sise_parser.specs.Reader.{partOf}
+use Rattle.sise_serializer.specs.Bytes.{pasted}
+use Rattle.sise_serializer.specs.Serializer.{Style, answerAs, Does, freshSerializer}
+use Rattle.sise_serializer.specs.declared.serializer.Serializer.{Serializer}
+use Rattle.sise_serializer.specs.declared.serializer.Wrote.{Wrote}
+use Rattle.sise_layout.specs.Calls.{Call, putAtomCall, beginListCall, endListCall, finishCall, step, run, writing}
+use Rattle.sise_layout.specs.Words.{callOf, callAt, hasCall, decoded, callsOf, answerWord, Runs}
+use Rattle.sise_layout.proofs.Refused.{pasted-none}
+
+-- ---- the call of a kind
+
+module _ (words atoms : List ℕ) (at : ℕ) where
+  pub call-atom : getD words at 0 ≡ 0 → callAt words atoms at ≡ putAtomCall (partOf atoms (getD words (at + 1) 0) (getD words (at + 2) 0)) (getD words (at + 3) 0)
+  unfolding callOf
+  call-atom e = rw (eq-eqb _ _ e)
+
+  pub call-begin : (getD words at 0 ≡ 0 → ⊥) → getD words at 0 ≡ 1 → callAt words atoms at ≡ beginListCall (getD words (at + 3) 0)
+  unfolding callOf
+  call-begin a e = rw (ne-eqb _ _ a, eq-eqb _ _ e)
+
+  pub call-end : (getD words at 0 ≡ 0 → ⊥) → (getD words at 0 ≡ 1 → ⊥) → getD words at 0 ≡ 2 → callAt words atoms at ≡ endListCall
+  unfolding callOf
+  call-end a b e = rw (ne-eqb _ _ a, ne-eqb _ _ b, eq-eqb _ _ e)
+
+  pub call-finish : (getD words at 0 ≡ 0 → ⊥) → (getD words at 0 ≡ 1 → ⊥) → (getD words at 0 ≡ 2 → ⊥) → getD words at 0 ≡ 3 → callAt words atoms at ≡ finishCall false
+  unfolding callOf
+  call-finish a b c e = rw (ne-eqb _ _ a, ne-eqb _ _ b, ne-eqb _ _ c, eq-eqb _ _ e)
+
+  pub call-break : (getD words at 0 ≡ 0 → ⊥) → (getD words at 0 ≡ 1 → ⊥) → (getD words at 0 ≡ 2 → ⊥) → (getD words at 0 ≡ 3 → ⊥) → callAt words atoms at ≡ finishCall true
+  unfolding callOf
+  call-break a b c d = rw (ne-eqb _ _ a, ne-eqb _ _ b, ne-eqb _ _ c, ne-eqb _ _ d)
+
+-- ---- words
+
+decoded-short : (l atoms : List ℕ) → length l < 4 → decoded l atoms ≡ []
+unfolding decoded
+decoded-short [] atoms h = refl
+decoded-short (a ∷ []) atoms h = refl
+decoded-short (a ∷ b ∷ []) atoms h = refl
+decoded-short (a ∷ b ∷ c ∷ []) atoms h = refl
+decoded-short (a ∷ b ∷ c ∷ d ∷ l) atoms h = absurd (omega arith)
+
+next : (l : List ℕ) (i j : ℕ) → j ≡ i + 1 → i < length l → drop i l ≡ getD l i 0 ∷ drop j l
+next l i j e h = let z : suc i ≡ j = omega arith in drop-cons l i 0 h ∙ ap (λ (n : ℕ). getD l i 0 ∷ drop n l) z
+
+and-false : {A : Type 0} (x y : Bool) → (x && y) ≡ false → (x ≡ false → A) → (x ≡ true → y ≡ false → A) → A
+and-false true y h f g = g refl h
+and-false false y h f g = f refl
+
+and-true : (x y : Bool) → (x && y) ≡ true → (x ≡ true) × (y ≡ true)
+and-true true y h = (refl, h)
+and-true false y h = absurd (false≢true h)
+
+module _ (words : List ℕ) (at : ℕ) where
+  pub has-short : length words - at < 4 → hasCall words at ≡ false
+  unfolding hasCall
+  has-short h = rw (lt-leb 4 (length words - at) h)
+
+  pub has-kind : 4 ≤ length words - at → hasCall words at ≡ leb (getD words at 0) 4
+  unfolding hasCall
+  has-kind h = rw (le-leb 4 (length words - at) h)
+
+  pub has-room : at ≤ length words → hasCall words at ≡ true → at + 4 ≤ length words
+  unfolding hasCall
+  has-room p h = let e = and-true (leb 4 (length words - at)) (leb (getD words at 0) 4) h .0 in omega (arith, leb-true 4 (length words - at) e)
+
+module _ (words atoms : List ℕ) (at : ℕ) where
+  four : at + 4 ≤ length words → drop at words ≡ getD words at 0 ∷ getD words (at + 1) 0 ∷ getD words (at + 2) 0 ∷ getD words (at + 3) 0 ∷ drop (at + 4) words
+  four room =
+      next words at (at + 1) (omega arith) (omega arith)
+      ∙ ap (λ (l : List ℕ). getD words at 0 ∷ l) (next words (at + 1) (at + 2) (omega arith) (omega arith)
+      ∙ ap (λ (l : List ℕ). getD words (at + 1) 0 ∷ l) (next words (at + 2) (at + 3) (omega arith) (omega arith)
+      ∙ ap (λ (l : List ℕ). getD words (at + 2) 0 ∷ l) (next words (at + 3) (at + 4) (omega arith) (omega arith))))
+
+  -- four words there, by whether the first is a kind
+  rest-as : at + 4 ≤ length words → {b : Bool} → leb (getD words at 0) 4 ≡ b → decoded (drop at words) atoms ≡ cond b (callAt words atoms at ∷ decoded (drop (at + 4) words) atoms) []
+  unfolding decoded
+  rest-as room e =
+      ap (λ (l : List ℕ). decoded l atoms) (four room)
+      ∙ ap (λ (b : Bool). cond b (callAt words atoms at ∷ decoded (drop (at + 4) words) atoms) []) e
+
+  rest-none : at ≤ length words → hasCall words at ≡ false → decoded (drop at words) atoms ≡ []
+  unfolding hasCall
+  rest-none p h =
+      and-false _ _ h
+      (λ e. decoded-short (drop at words) atoms (rw (length-drop at words) (leb-false 4 (length words - at) e)))
+      (λ e f. rest-as (omega (arith, leb-true 4 (length words - at) e)) f)
+
+  rest-call : at ≤ length words → hasCall words at ≡ true → decoded (drop at words) atoms ≡ callAt words atoms at ∷ decoded (drop (at + 4) words) atoms
+  unfolding hasCall
+  rest-call p h = rest-as (has-room words at p h) (and-true (leb 4 (length words - at)) _ h .1)
+
+-- ---- answers
+
+pub pasted-cons : (l : List ℕ) (k x : ℕ) (xs : List ℕ) → k < length l → pasted l k (x ∷ xs) ≡ pasted (set l k x) (k + 1) xs
+unfolding pasted
+pasted-cons l k x xs h =
+    let n : k + 1 + length xs ≡ k + suc (length xs) = omega arith in
+    let one : k + 1 ≡ suc k = omega arith in
+    sym (ap (λ (m : ℕ). take m (set l k x) ++ xs ++ drop (k + 1 + length xs) (set l k x)) one
+    ∙ ap (λ (p : List ℕ). p ++ xs ++ drop (k + 1 + length xs) (set l k x)) (take-suc-set l k x h)
+    ∙ ap (λ (q : List ℕ). take k l ++ (x ∷ []) ++ xs ++ q) (drop-set-lt (k + 1 + length xs) l k x (omega arith))
+    ∙ ap (λ (p : List ℕ). p ++ drop (k + 1 + length xs) l) (append-snoc (take k l) x xs)
+    ∙ ap (λ (m : ℕ). take k l ++ (x ∷ xs) ++ drop m l) n)
+
+-- ---- running
+
+-- what running the calls cs leaves, from the record w, the buffer b and the words a of which k are set
+pub record Final : Type 0 where
+  pub last : Serializer
+  pub buffer : List ℕ
+  pub answers : List ℕ
+  pub calls : ℕ
+
+unfoldable pub final : Style → List ℕ → Serializer → List ℕ → ℕ → List Call → Final
+final s b w a k cs =
+    let r = run s b w cs in
+    record { last = r .last; buffer = r .buffer; answers = pasted a k (map answerWord (r .answers)); calls = k + length cs }
+
+final-more : (s : Style) (b : List ℕ) (w : Serializer) (a : List ℕ) (k : ℕ) (c : Call) (cs : List Call) → k < length a
+    → final s b w a k (c ∷ cs)
+    ≡ final s (pasted b (w .position) (step s (length b) w c .bytes)) (step s (length b) w c .serializer) (set a k (answerWord (step s (length b) w c .answer))) (k + 1) cs
+unfolding final run
+final-more s b w a k c cs h =
+    let d = step s (length b) w c in
+    let r = run s (pasted b (w .position) (d .bytes)) (d .serializer) cs in
+    let n : k + suc (length cs) ≡ k + 1 + length cs = omega arith in
+    ap (λ (x : List ℕ). record { last = r .last; buffer = r .buffer; answers = x; calls = k + suc (length cs) }) (pasted-cons a k _ _ h)
+    ∙ ap (λ (x : ℕ). record { last = r .last; buffer = r .buffer; answers = pasted (set a k (answerWord (d .answer))) (k + 1) (map answerWord (r .answers)); calls = x }) n
+
+final-none : (s : Style) (b : List ℕ) (w : Serializer) (a : List ℕ) (k : ℕ)
+    → final s b w a k [] ≡ record { last = w; buffer = b; answers = a; calls = k }
+unfolding final run
+final-none s b w a k =
+    ap (λ (x : List ℕ). record { last = w; buffer = b; answers = x; calls = k + 0 }) (pasted-none a k)
+    ∙ ap (λ (x : ℕ). record { last = w; buffer = b; answers = a; calls = x }) (add-zero k)
+
+-- where a list of calls is after k of them, with the words from `at` on left: the rest leaves what the whole leaves
+pub record Left (s : Style) (words atoms b₀ a₀ b a : List ℕ) (w : Serializer) (k at : ℕ) : Type 0 where
+  pub same : final s b w a k (take (length a₀ - k) (decoded (drop at words) atoms)) ≡ final s b₀ freshSerializer a₀ 0 (callsOf words atoms (length a₀))
+  pub index : k ≤ length a₀
+  pub place : at ≤ length words
+  pub answers-length : length a ≡ length a₀
+  pub buffer-length : length b ≡ length b₀
+
+pub start : (s : Style) (words atoms b a : List ℕ) (w : Serializer) → w ≡ freshSerializer → Left s words atoms b a b a w 0 0
+start s words atoms b a w e =
+    let z : length a - 0 ≡ length a = omega arith in
+    record {
+      same = ap (λ (n : ℕ). final s b w a 0 (take n (decoded words atoms))) z ∙ ap (λ (x : Serializer). final s b x a 0 (callsOf words atoms (length a))) e;
+      index = omega arith;
+      place = omega arith;
+      answers-length = refl;
+      buffer-length = refl;
+    }
+
+module _ {s : Style} {words atoms b₀ a₀ b a : List ℕ} {w : Serializer} {k at : ℕ} (l : Left s words atoms b₀ a₀ b a w k at) where
+  -- nothing is left
+  finished : take (length a₀ - k) (decoded (drop at words) atoms) ≡ [] → Runs (writing s b₀ (callsOf words atoms (length a₀))) (callsOf words atoms (length a₀)) a₀ w k b a
+  unfolding final
+  finished none =
+      let e = sym (final-none s b w a k) ∙ sym (ap (final s b w a k) none) ∙ l .same in
+      record {
+        serializer = ap (λ (f : Final). f .last) e;
+        calls = ap (λ (f : Final). f .calls) e ∙ zero-add _;
+        buffer = ap (λ (f : Final). f .buffer) e;
+        answers = ap (λ (f : Final). f .answers) e;
+      }
+
+  pub full : length a ≤ k → Runs (writing s b₀ (callsOf words atoms (length a₀))) (callsOf words atoms (length a₀)) a₀ w k b a
+  full h =
+      let e = l .answers-length in
+      let z : length a₀ - k ≡ 0 = omega arith in
+      finished (ap (λ (n : ℕ). take n (decoded (drop at words) atoms)) z)
+
+  pub stopped : hasCall words at ≡ false → Runs (writing s b₀ (callsOf words atoms (length a₀))) (callsOf words atoms (length a₀)) a₀ w k b a
+  stopped h = finished (ap (take (length a₀ - k)) (rest-none words atoms at (l .place) h) ∙ take-nil (length a₀ - k))
+
+  -- one call more
+  pub on : {r : Wrote} {bx : List ℕ} {x : ℕ} → k < length a → hasCall words at ≡ true
+      → Does (step s (length b) w (callAt words atoms at)) w b r bx → x ≡ answerWord (answerAs (r .answer)) → length bx ≡ length b
+      → Left s words atoms b₀ a₀ bx (set a k x) (r .serializer) (k + 1) (at + 4)
+  on {r} {bx} {x} h has does told keeps =
+      let e = l .answers-length in
+      let c = callAt words atoms at in
+      let d = step s (length b) w c in
+      let cs = take (length a₀ - (k + 1)) (decoded (drop (at + 4) words) atoms) in
+      let z : length a₀ - k ≡ suc (length a₀ - (k + 1)) = omega arith in
+      let split : take (length a₀ - k) (decoded (drop at words) atoms) ≡ c ∷ cs = ap (take (length a₀ - k)) (rest-call words atoms at (l .place) has) ∙ ap (λ (n : ℕ). take n (c ∷ decoded (drop (at + 4) words) atoms)) z in
+      record {
+        same =
+            ap (λ (y : List ℕ). final s y (r .serializer) (set a k x) (k + 1) cs) (does .buffer)
+            ∙ ap (λ (y : Serializer). final s (pasted b (w .position) (d .bytes)) y (set a k x) (k + 1) cs) (does .serializer)
+            ∙ ap (λ (y : ℕ). final s (pasted b (w .position) (d .bytes)) (d .serializer) (set a k y) (k + 1) cs) (told ∙ ap answerWord (does .answer))
+            ∙ sym (final-more s b w a k c cs h)
+            ∙ sym (ap (final s b w a k) split)
+            ∙ l .same;
+        index = omega arith;
+        place = has-room words at (l .place) has;
+        answers-length = length-set a k x ∙ e;
+        buffer-length = keeps ∙ l .buffer-length;
+      }
