@@ -6,6 +6,7 @@ use crate::damage::borders;
 use crate::examples;
 use crate::judge::Judge;
 use crate::reading::Case;
+use crate::replay::Judges;
 use std::io::Write;
 
 const LARGEST_SCRIPT: usize = 60_000;
