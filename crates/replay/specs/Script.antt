@@ -29,5 +29,5 @@ StyleFrom from n WriterCase.Malformed = Unit {0}
 
 -- so does a call, and its atom
 abbrev pub CallFrom : ℕ → ℕ → Call → Type 0
-CallFrom from n (Call.Read letter number start len next) = (from < next) × (next ≤ n) × (start + len ≤ n)
+CallFrom from n (Call.Read letter number start end next) = (from < next) × (next ≤ n) × (start ≤ end) × (end ≤ n)
 CallFrom from n Call.Malformed = Unit {0}

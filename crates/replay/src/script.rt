@@ -39,13 +39,13 @@ pub enum WriterCase {
     Malformed,
 }
 
-// A writer's call: its letter, its threshold or wish, where an atom begins and its length, and the next call's place.
+// A writer's call: its letter, its threshold or wish, where an atom begins and ends, and the next call's place.
 pub enum Call {
     Read {
         letter: u8,
         number: usize,
         start: usize,
-        len: usize,
+        end: usize,
         next: usize,
     },
     Malformed,
@@ -165,7 +165,7 @@ fn read_atom_call(script: &[u8], from: usize) -> Call
         letter: b'A',
         number,
         start,
-        len,
+        end: start + len,
         next: start + len + 1,
     }
 }
@@ -181,7 +181,7 @@ fn read_short_call(script: &[u8], from: usize, letter: u8) -> Call
         letter,
         number,
         start: next,
-        len: 0,
+        end: next,
         next,
     }
 }

@@ -1,4 +1,5 @@
 // The writer's cases.
+ghost use mathlib.Core.Path.{_≡_};
 ghost use Prim.Native.Nat.{_<_};
 ghost use lib.ListN.{length};
 ghost use Rattle.replay.specs.Script.{Onward};
@@ -154,10 +155,9 @@ fn put_case(
     let mut left = calls;
     while 0 < left {
         left -= 1;
-        let Call::Read { letter, number, start, len, next } = read_call(script, from) else {
+        let Call::Read { letter, number, start, end, next } = read_call(script, from) else {
             return Ran::Malformed { place: at };
         };
-        let end = start + len;
         let wrote = make_call(serializer, line_break, indentation, buf, letter, &script[start..end], number);
         serializer = wrote.serializer;
         let answer = wrote.answer;
@@ -171,7 +171,9 @@ fn put_case(
 }
 
 // The buffer that a case's calls write into a part of.
-fn memory() -> [u8; 4096] {
+fn memory() -> [u8; 4096]
+    ensures { λ r. ⌜ 4096 ≡ length r ⌝ }
+{
     [170; 4096]
 }
 

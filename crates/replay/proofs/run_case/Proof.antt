@@ -19,6 +19,10 @@ run-case-spec =
     (λ c. search needs)  -- shared-slice-read-match
     (λ c. search needs)  -- add-run
     (λ c κs. search needs)  -- run-requires
+    (λ c. search needs)  -- add-run-2
+    (λ c κs. search needs)  -- run-requires-2
     (λ c. search needs)  -- same-length
     (λ c. earlier (c .before .before .before .before .before .before .before .before .args .from) (c .before .before .run .result) (c .before .before .run .ensures))  -- returns
-    (λ c. search needs))  -- returns-2
+    (λ c. search needs)  -- same-length-2
+    (λ c. earlier (c .before .before .before .before .before .before .before .before .args .from) (c .before .before .run2 .result) (c .before .before .run2 .ensures))  -- returns-2
+    (λ c. search needs))  -- returns-3

@@ -35,9 +35,8 @@ put-case-spec =
     (λ c. search needs)  -- same-length
     (λ c. search needs)  -- same-length-2
     (λ c. search needs)  -- returns
-    (λ c. let s = call-from _ _ (c .before .letter .given .1) (c .before .before .before .read-call .ensures) in omega arith)  -- add-end
-    (λ c. search needs)  -- sub-make-call
-    (λ c. search needs)  -- part-make-call-start
+    (λ c. let s = call-from _ _ (c .before .before .letter .given .1) (c .before .before .before .before .read-call .ensures) in omega arith)  -- sub-make-call
+    (λ c. let s = call-from _ _ (c .before .before .letter .given .1) (c .before .before .before .before .read-call .ensures) in omega arith)  -- part-make-call-start
     (λ c. let s = call-from _ _ (c .before .before .letter .given .1) (c .before .before .before .before .read-call .ensures) in omega arith)  -- part-make-call-end
     (λ c κs. search needs)  -- make-call-requires
     (λ c κs. search needs)  -- put-call-requires
