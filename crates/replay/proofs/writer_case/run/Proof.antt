@@ -28,5 +28,5 @@ run-spec =
     (λ c κs. let s = style-from _ _ (c .before .before .before .before .before .before .room .given .1) (c .before .before .before .before .before .before .before .before .read-writer-case .ensures) in omega arith)  -- put-case-requires
     (λ c. search needs)  -- enum-told
     (λ c. search needs)  -- same-length
-    (λ c. let s = style-from _ _ (c .before .before .before .before .before .before .before .before .before .before .room .given .1) (c .before .before .before .before .before .before .before .before .before .before .before .before .read-writer-case .ensures) in onward-from _ _ _ _ _ (s .0) (c .before .before .before .put-case .ensures))  -- returns
+    (λ c. let s = style-from _ _ (c .before .before .before .before .before .before .before .before .before .before .room .given .1) (c .before .before .before .before .before .before .before .before .before .before .before .before .read-writer-case .ensures) in onward-from _ _ (c .before .before .before .before .before .before .before .before .before .before .room .given .0 .1 .1 .0) (c .before .before .before .before .before .before .before .before .before .before .room .given .0 .1 .1 .1 .0) (c .before .before .before .put-case .result) (s .0) (c .before .before .before .put-case .ensures))  -- returns
     (λ c. search needs))  -- returns-2
