@@ -1,7 +1,11 @@
 //! How many cases differ, and the first of them in full.
 
-use crate::reading::Case;
 use std::fmt::Write;
+
+/// A case that can be told in lines.
+pub trait Described {
+    fn describe(&self) -> String;
+}
 
 #[derive(Default)]
 pub struct Differences {
@@ -11,7 +15,7 @@ pub struct Differences {
 
 impl Differences {
     /// A case whose answers aren't those expected, both as lines.
-    pub fn add(&mut self, case: &Case, expected: &[u8], found: &[u8]) {
+    pub fn add(&mut self, case: &impl Described, expected: &[u8], found: &[u8]) {
         self.note(|| describe(case, expected, found));
     }
 
@@ -31,12 +35,8 @@ impl Differences {
 }
 
 /// Lines that are as expected stand once; elsewhere `-` has the expected line and `+` the one found.
-fn describe(case: &Case, expected: &[u8], found: &[u8]) -> String {
-    let mut out = String::new();
-    let finish = if case.finish { ", then finish" } else { "" };
-    let (len, text) = (case.text.len(), case.text.escape_ascii());
-    let _ = writeln!(out, "text of {len} bytes: {text}");
-    let _ = writeln!(out, "calls: {} next_item{finish}", case.calls);
+fn describe(case: &impl Described, expected: &[u8], found: &[u8]) -> String {
+    let mut out = case.describe();
     let _ = writeln!(out, "answers (- expected, + found):");
     let mut expected = expected.split_inclusive(|&b| b == b'\n');
     let mut found = found.split_inclusive(|&b| b == b'\n');

@@ -7,6 +7,7 @@ use crate::model::Model;
 use crate::options::Options;
 use crate::original::{Masked, Original};
 use crate::reading::{Case, Reading};
+use crate::replay::Judges;
 use crate::script::{put_answers, put_case, CASE};
 
 #[derive(Default)]
@@ -36,18 +37,6 @@ impl Judge {
         model
     }
 
-    /// The script of the cases, and what replay has to print for it.
-    pub fn script_and_answers(&mut self, cases: &[Case]) -> (Vec<u8>, Vec<u8>) {
-        let mut script = Vec::new();
-        let mut answers = Vec::new();
-        for case in cases {
-            put_case(&mut script, case);
-            answers.extend_from_slice(CASE);
-            put_answers(&mut answers, &self.expected(case));
-        }
-        (script, answers)
-    }
-
     fn hold(&mut self, case: &Case, original: &Reading, model: &Reading) {
         if original != model {
             self.disagreements
@@ -62,6 +51,19 @@ impl Judge {
         println!("model against crate: {valid} texts of valid UTF-8 and {masked} others, {count} disagreements");
         self.disagreements
             .print("the first one, the crate's answers expected:")
+    }
+}
+
+impl Judges<Case> for Judge {
+    fn script_and_answers(&mut self, cases: &[Case]) -> (Vec<u8>, Vec<u8>) {
+        let mut script = Vec::new();
+        let mut answers = Vec::new();
+        for case in cases {
+            put_case(&mut script, case);
+            answers.extend_from_slice(CASE);
+            put_answers(&mut answers, &self.expected(case));
+        }
+        (script, answers)
     }
 }
 

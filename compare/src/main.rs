@@ -3,7 +3,8 @@
 //!     compare/run characters < crates/characters/stdin     what crates/characters has to print, by the crate and by Rust's own UTF-8 decoder
 //!     compare/run reader [WORDS] [--replay PATH]           the program replay (default target/bin/replay) against the crate's Parser
 //!     compare/run model [WORDS]                            document 01's rules, as model.rs has them, against the crate's Parser
-//!     compare/run sample script                            a fixed sample of the reader's cases, for crates/replay/stdin
+//!     compare/run writer [WORDS] [--replay PATH]           replay against document 01's rules for the writer, and these against the crate's Serializer
+//!     compare/run sample script                            a fixed sample of the cases, for crates/replay/stdin
 //!     compare/run sample answers                           what replay has to print for it, for crates/replay/stdout
 //!
 //! WORDS: --quick makes 40,000 cases rather than 1,000,000; --cases N makes N; --seed S makes other random ones.
@@ -26,8 +27,14 @@ mod profile;
 mod random;
 mod reader;
 mod reading;
+mod replay;
 mod sample;
 mod script;
+mod writer;
+mod writer_cases;
+mod writer_judge;
+mod writer_model;
+mod writing;
 
 mod util {
     include!(concat!(env!("SISE_SRC"), "/util.rs"));
@@ -55,6 +62,67 @@ mod parser {
     }
 }
 
+mod serializer {
+    include!(concat!(env!("SISE_SRC"), "/serializer.rs"));
+
+    impl StackItem {
+        fn copy(&self) -> Self {
+            Self {
+                line_broken: self.line_broken,
+            }
+        }
+    }
+
+    /// What the crate keeps of document 01's record while it writes.
+    #[derive(Debug, PartialEq, Eq)]
+    pub struct Kept {
+        pub broken: Vec<bool>,
+        pub list_beginning: bool,
+        pub line_len: usize,
+    }
+
+    impl<'a> Serializer<'a, '_> {
+        /// The same writer over a text of its own, for a call that may panic.
+        pub fn copy<'c>(&self, out: &'c mut String) -> Serializer<'a, 'c> {
+            let state = match &self.state {
+                State::Beginning => State::Beginning,
+                State::Finished => State::Finished,
+                State::Writing(state) => State::Writing(WritingState {
+                    stack: state.stack.iter().map(StackItem::copy).collect(),
+                    ..*state
+                }),
+            };
+            Serializer {
+                style: self.style,
+                out,
+                state,
+            }
+        }
+
+        pub fn text(&self) -> &str {
+            self.out
+        }
+
+        /// The private state; `None` before the first item and after the last.
+        pub fn kept(&self) -> Option<Kept> {
+            let State::Writing(state) = &self.state else {
+                return None;
+            };
+            let outer = state.stack.iter().map(|item| item.line_broken);
+            Some(Kept {
+                broken: outer.chain([state.current_list_line_broken]).collect(),
+                list_beginning: state.list_beginning,
+                line_len: state.line_len,
+            })
+        }
+
+        /// Whether the whole node is written.
+        pub fn is_finished(&self) -> bool {
+            matches!(self.state, State::Finished)
+        }
+    }
+}
+
 pub use util::{check_atom, is_atom_chr, is_atom_string_chr};
 
 use std::process::ExitCode;
@@ -70,9 +138,10 @@ fn main() -> ExitCode {
         }
         "reader" => reader::run(rest),
         "model" => judge::run(rest),
+        "writer" => writer::run(rest),
         "sample" => sample::run(rest),
         _ => Err(String::from(
-            "the modes are: characters, reader, model, sample",
+            "the modes are: characters, reader, model, writer, sample",
         )),
     };
     match done {

@@ -1,34 +1,19 @@
-//! The mode `reader`: the program `replay` answers scripts, and its answers are held against those expected.
+//! The mode `reader`.
 
 use crate::cases;
-use crate::differences::Differences;
 use crate::judge::Judge;
 use crate::options::Options;
 use crate::reading::Case;
-use crate::script::CASE;
-use std::io::Write;
-use std::iter::Peekable;
-use std::path::{Path, PathBuf};
-use std::process::{Command, Output, Stdio};
-
-const LARGEST_SCRIPT: usize = 1_000_000;
+use crate::replay;
 
 /// What a case has in a script beside its text, at most.
 const HEADER: usize = 64;
 
 pub fn run(words: &[String]) -> Result<bool, String> {
     let options = Options::read(words)?;
-    let default = || PathBuf::from("target/bin/replay");
-    let replay = options.replay.clone().unwrap_or_else(default);
     let mut judge = Judge::default();
-    let mut differences = Differences::default();
-    let mut cases = cases::all(&options).peekable();
-    while cases.peek().is_some() {
-        let batch = batch(&mut cases);
-        let (script, expected) = judge.script_and_answers(&batch);
-        let output = answers(&replay, &script)?;
-        compare(&batch, &expected, &output, &mut differences);
-    }
+    let size = |case: &Case| case.text.len() + HEADER;
+    let differences = replay::run(&options, cases::all(&options), size, &mut judge)?;
     let (cases, calls) = (judge.cases, judge.calls);
     println!(
         "reader: {cases} cases, {calls} calls, {} differences",
@@ -37,69 +22,4 @@ pub fn run(words: &[String]) -> Result<bool, String> {
     let same = differences.print("the first one:");
     let agree = judge.print();
     Ok(same && agree)
-}
-
-/// The next cases, as many as a script takes.
-fn batch(cases: &mut Peekable<impl Iterator<Item = Case>>) -> Vec<Case> {
-    let mut batch = Vec::new();
-    let mut room = LARGEST_SCRIPT;
-    while let Some(case) = cases.next_if(|case| case.text.len() + HEADER <= room) {
-        room -= case.text.len() + HEADER;
-        batch.push(case);
-    }
-    batch
-}
-
-fn answers(replay: &Path, script: &[u8]) -> Result<Output, String> {
-    let not_run = |error| format!("cannot run {}: {error}", replay.display());
-    let mut child = Command::new(replay)
-        .stdin(Stdio::piped())
-        .stdout(Stdio::piped())
-        .spawn()
-        .map_err(not_run)?;
-    let stdin = child.stdin.take();
-    std::thread::scope(|scope| {
-        // Beside the reading, since replay may answer before it has the whole script. If it ends early, its answers fall short.
-        scope.spawn(move || stdin.map(|mut stdin| stdin.write_all(script)));
-        child.wait_with_output().map_err(not_run)
-    })
-}
-
-fn compare(batch: &[Case], expected: &[u8], output: &Output, differences: &mut Differences) {
-    let before = differences.count;
-    if output.stdout != expected {
-        let mut found = blocks(&output.stdout).into_iter();
-        for (case, expected) in batch.iter().zip(blocks(expected)) {
-            let found = found.next().unwrap_or_default();
-            if found != expected {
-                differences.add(case, expected, found);
-            }
-        }
-        if differences.count == before {
-            differences.note(|| String::from("more is printed than the answers to the cases"));
-        }
-    }
-    if !output.status.success() {
-        let failure = format!("replay ended with {}", output.status);
-        // Said at once, since a case may be the first difference.
-        eprintln!("compare: {failure}");
-        differences.note(|| failure);
-    }
-}
-
-/// The lines of each case.
-fn blocks(output: &[u8]) -> Vec<&[u8]> {
-    let mut starts = Vec::new();
-    let mut at = 0;
-    for line in output.split_inclusive(|&b| b == b'\n') {
-        if line == CASE {
-            starts.push(at);
-        }
-        at += line.len();
-    }
-    let ends = starts.iter().skip(1).chain([&at]);
-    let spans = starts.iter().zip(ends);
-    spans
-        .map(|(&start, &end)| &output[start + CASE.len()..end])
-        .collect()
 }

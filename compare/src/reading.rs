@@ -1,10 +1,21 @@
 //! A case for the reader, the answers a reader gives to its calls, and the calls made one after the other.
 
+use crate::differences::Described;
+
 /// A text, how often `next_item` is called on a fresh reader over it, and whether `finish` is called last.
 pub struct Case {
     pub text: Vec<u8>,
     pub calls: usize,
     pub finish: bool,
+}
+
+impl Described for Case {
+    fn describe(&self) -> String {
+        let finish = if self.finish { ", then finish" } else { "" };
+        let (len, text) = (self.text.len(), self.text.escape_ascii());
+        let calls = self.calls;
+        format!("text of {len} bytes: {text}\ncalls: {calls} next_item{finish}\n")
+    }
 }
 
 /// The numbers are the script's.

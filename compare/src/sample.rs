@@ -6,6 +6,10 @@ use crate::damage::borders;
 use crate::examples;
 use crate::judge::Judge;
 use crate::reading::Case;
+use crate::replay::Judges;
+use crate::writer_cases;
+use crate::writer_judge::{silenced, WriterJudge};
+use crate::writing::WriterCase;
 use std::io::Write;
 
 const LARGEST_SCRIPT: usize = 60_000;
@@ -16,6 +20,16 @@ pub fn run(words: &[String]) -> Result<bool, String> {
     if judge.disagreements.count > 0 {
         return Err(String::from("model and crate disagree on the sample"));
     }
+    let mut writer_judge = WriterJudge::default();
+    let (writer_script, writer_answers) =
+        silenced(|| writer_judge.script_and_answers(&writer_sample()));
+    if writer_judge.disagreements.count > 0 {
+        return Err(String::from(
+            "the writer's model and crate disagree on the sample",
+        ));
+    }
+    script.extend_from_slice(&writer_script);
+    answers.extend_from_slice(&writer_answers);
     if script.len() >= LARGEST_SCRIPT {
         return Err(format!("the sample's script has {} bytes", script.len()));
     }
@@ -41,5 +55,16 @@ fn cases() -> Vec<Case> {
     for kind in KINDS {
         cases.extend((0..30).map(|_| maker.case(kind)));
     }
+    cases
+}
+
+/// The worked writings, 200 and 201 open lists, some short lists of calls, and random ones.
+fn writer_sample() -> Vec<WriterCase> {
+    let mut cases = writer_cases::worked();
+    cases.extend(writer_cases::deep());
+    // A prime, so that the steps go through every style, room and call.
+    cases.extend(writer_cases::exhaustive(3).step_by(293));
+    let mut maker = writer_cases::Maker::new(0, 60);
+    cases.extend((0..90).map(|_| maker.case()));
     cases
 }

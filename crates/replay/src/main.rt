@@ -10,9 +10,20 @@
 // `! number place code` (document 01's number, and 0 for a place or a code point that it has not); after an atom ` | ` and the atom's bytes follow; and
 // for finish the line `ok` or `! number place code`.
 //
-// At a case that is malformed, or that the script's end cuts off, the line `malformed` is printed, and nothing after it.
+// W, the writer: the line `W R B I K`, then the B bytes of a line break and the I bytes of an indentation, then a line end; R is at most 4096. K calls
+// follow: `A N T`, a line end, the N bytes of an atom (put_atom); `( T` (begin_list); `) 0` (end_list); `F 1` or `F 0` (finish, with a final line break
+// or without); and a line end after each. T is the threshold, 999999999 standing for the largest of 64 bits. All calls write into one buffer of R bytes,
+// 0xAA at first: the first call gets a fresh record, each later one the record that the last left. Printed is the line `case`; for each call the line
+//     ANSWER | position phase lists list_beginning line_len spaces breaks indents FLAGS
+// with the record after the call, its phase 0 (beginning), 1 (writing), 2 (finished) or 3 (done), a truth as 0 or 1, and a digit for the flag of each
+// open list, outermost first, where ANSWER is `@ offset` or `! number`; and last `= `, the buffer's bytes up to the position, and a line end.
+//
+// At a case that is malformed, or that the script's end cuts off, the line `malformed` is printed, and nothing after it. Of a writer's case,
+// the calls before the malformed one are run.
+mod line;
 mod reader_case;
 mod script;
+mod writer_case;
 
 ghost use Prim.Native.Nat.{_<_};
 ghost use lib.ListN.{length};
@@ -27,7 +38,8 @@ fn run_case(out: &mut [u8], at: usize, script: &[u8], from: usize) -> Ran
 {
     match script[from] {
         b'R' => reader_case::run(out, at, script, from + 1),
-        _ => Ran::Malformed,
+        b'W' => writer_case::run(out, at, script, from + 1),
+        _ => Ran::Malformed { place: at },
     }
 }
 
@@ -41,8 +53,8 @@ fn run_script(script: &[u8]) {
                 at = place;
                 from = next;
             }
-            Ran::Malformed => {
-                at = lines::make_room(&out, at, reader_case::LINE);
+            Ran::Malformed { place } => {
+                at = lines::make_room(&out, place, line::LINE);
                 at = lines::put_bytes(&mut out, at, b"malformed\n");
                 break;
             }

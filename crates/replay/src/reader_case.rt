@@ -1,6 +1,10 @@
 // The reader's cases.
 ghost use Prim.Native.Nat.{_<_};
 ghost use Rattle.replay.specs.Script.{Onward};
+use crate::line::LINE;
+use crate::line::put_letter;
+use crate::line::put_number;
+use crate::line::put_part;
 use crate::script::Ran;
 use crate::script::ReaderCase;
 use crate::script::read_reader_case;
@@ -11,19 +15,6 @@ use sise_parser::ParsedItem;
 use sise_parser::Phase;
 use sise_parser::Reader;
 use sise_parser::atom_bytes;
-
-// No line is longer, but for an atom's bytes.
-pub(crate) const LINE: usize = 64;
-
-fn put_number(out: &mut [u8], at: usize, n: usize) -> usize {
-    let at = lines::put_byte(out, at, b' ');
-    lines::put_decimal(out, at, n as u64)
-}
-
-fn put_letter(out: &mut [u8], at: usize, letter: u8, place: usize) -> usize {
-    let at = lines::put_byte(out, at, letter);
-    put_number(out, at, place)
-}
 
 fn put_item(out: &mut [u8], at: usize, item: ParsedItem) -> usize {
     match item {
@@ -65,17 +56,6 @@ fn put_record(out: &mut [u8], at: usize, reader: Reader) -> usize {
     put_number(out, at, reader.lists)
 }
 
-// Puts the bytes, with room for the line end left. Those that are too many for the buffer are written from where they are.
-fn put_atom(out: &mut [u8], at: usize, bytes: &[u8]) -> usize {
-    if out.len() <= bytes.len() {
-        let next = lines::flush(out, at);
-        lines::flush(bytes, bytes.len());
-        return next;
-    }
-    let at = lines::make_room(out, at, bytes.len() + 1);
-    lines::put_bytes(out, at, bytes)
-}
-
 fn put_atom_of(out: &mut [u8], at: usize, text: &[u8], answer: Answer) -> usize {
     let Answer::Item(item) = answer else {
         return at;
@@ -84,7 +64,7 @@ fn put_atom_of(out: &mut [u8], at: usize, text: &[u8], answer: Answer) -> usize 
         return at;
     };
     let at = lines::put_bytes(out, at, b" | ");
-    put_atom(out, at, atom_bytes(text, pos, len))
+    put_part(out, at, atom_bytes(text, pos, len))
 }
 
 // The line of a next_item call that left the record `reader`.
@@ -144,6 +124,6 @@ pub(crate) fn run(out: &mut [u8], at: usize, script: &[u8], from: usize) -> Ran
                 next: end + 1,
             }
         }
-        ReaderCase::Malformed => Ran::Malformed,
+        ReaderCase::Malformed => Ran::Malformed { place: at },
     }
 }

@@ -1,11 +1,12 @@
 // The script's parts.
 ghost use lib.ListN.{length};
-ghost use Rattle.replay.specs.Script.{NumberFrom, TextFrom};
+ghost use Rattle.replay.specs.Script.{NumberFrom, TextFrom, StyleFrom, CallFrom};
 
-// A case that was run, with the output's place after its answers and the next case's place in the script; or one that cannot be run.
+// A case that was run, with the output's place after its answers and the next case's place in the script; or one that cannot be run to
+// its end.
 pub enum Ran {
     Case { place: usize, next: usize },
-    Malformed,
+    Malformed { place: usize },
 }
 
 // A number, and the place after the byte that ends it.
@@ -21,6 +22,31 @@ pub enum ReaderCase {
         len: usize,
         calls: usize,
         finish: bool,
+    },
+    Malformed,
+}
+
+// The fields of a writer's case: the buffer's length, where the line break begins, its length and that of the indentation after it, and the number of
+// calls.
+pub enum WriterCase {
+    Read {
+        room: usize,
+        start: usize,
+        line_break: usize,
+        indentation: usize,
+        calls: usize,
+    },
+    Malformed,
+}
+
+// A writer's call: its letter, its threshold or wish, where an atom begins and ends, and the next call's place.
+pub enum Call {
+    Read {
+        letter: u8,
+        number: usize,
+        start: usize,
+        end: usize,
+        next: usize,
     },
     Malformed,
 }
@@ -77,5 +103,102 @@ pub(crate) fn read_reader_case(script: &[u8], from: usize) -> ReaderCase
         len,
         calls,
         finish: finish == 1,
+    }
+}
+
+// A space and a number after it.
+fn read_field(script: &[u8], from: usize, end: u8) -> Number
+    ensures { λ r. ⌜ NumberFrom from (length (now (script .entry))) r ⌝ }
+{
+    if script.len() <= from || script[from] != b' ' {
+        return Number::Malformed;
+    }
+    read_number(script, from + 1, end)
+}
+
+// The writer's case whose letter stands before `from`: its style and the line end after it lie in the script.
+pub(crate) fn read_writer_case(script: &[u8], from: usize) -> WriterCase
+    ensures { λ r. ⌜ StyleFrom from (length (now (script .entry))) r ⌝ }
+{
+    let Number::Read(room, at) = read_field(script, from, b' ') else {
+        return WriterCase::Malformed;
+    };
+    let Number::Read(line_break, at) = read_number(script, at, b' ') else {
+        return WriterCase::Malformed;
+    };
+    let Number::Read(indentation, at) = read_number(script, at, b' ') else {
+        return WriterCase::Malformed;
+    };
+    let Number::Read(calls, start) = read_number(script, at, b'\n') else {
+        return WriterCase::Malformed;
+    };
+    if 4096 < room || 1048576 < line_break || 1048576 < indentation {
+        return WriterCase::Malformed;
+    }
+    let len = line_break + indentation;
+    if script.len() - start <= len || script[start + len] != b'\n' {
+        return WriterCase::Malformed;
+    }
+    WriterCase::Read {
+        room,
+        start,
+        line_break,
+        indentation,
+        calls,
+    }
+}
+
+// A put_atom whose letter stands before `from`: the atom and the line end after it lie in the script.
+fn read_atom_call(script: &[u8], from: usize) -> Call
+    ensures { λ r. ⌜ CallFrom from (length (now (script .entry))) r ⌝ }
+{
+    let Number::Read(len, at) = read_field(script, from, b' ') else {
+        return Call::Malformed;
+    };
+    let Number::Read(number, start) = read_number(script, at, b'\n') else {
+        return Call::Malformed;
+    };
+    if script.len() - start <= len || script[start + len] != b'\n' {
+        return Call::Malformed;
+    }
+    Call::Read {
+        letter: b'A',
+        number,
+        start,
+        end: start + len,
+        next: start + len + 1,
+    }
+}
+
+// Another call of one number, whose letter stands before `from`.
+fn read_short_call(script: &[u8], from: usize, letter: u8) -> Call
+    ensures { λ r. ⌜ CallFrom from (length (now (script .entry))) r ⌝ }
+{
+    let Number::Read(number, next) = read_field(script, from, b'\n') else {
+        return Call::Malformed;
+    };
+    Call::Read {
+        letter,
+        number,
+        start: next,
+        end: next,
+        next,
+    }
+}
+
+// The call that begins at `from`.
+pub(crate) fn read_call(script: &[u8], from: usize) -> Call
+    ensures { λ r. ⌜ CallFrom from (length (now (script .entry))) r ⌝ }
+{
+    if script.len() <= from {
+        return Call::Malformed;
+    }
+    let letter = script[from];
+    match letter {
+        b'A' => read_atom_call(script, from + 1),
+        b'(' => read_short_call(script, from + 1, letter),
+        b')' => read_short_call(script, from + 1, letter),
+        b'F' => read_short_call(script, from + 1, letter),
+        _ => Call::Malformed,
     }
 }

@@ -33,7 +33,7 @@ run-script-spec =
     (λ c. search needs)  -- enum-known-place
     (λ c. let s = onward _ (c .before .place .given .1) (c .before .before .before .before .run-case .ensures) in omega arith)  -- loop-less
     (λ c. search needs)  -- loop-again
-    (λ c. search needs)  -- enum-told
+    (λ c. search needs)  -- enum-known-place-2
     (λ c. search needs)  -- slice-aggregate-make-room
     (λ c κs. search needs)  -- make-room-requires
     (λ c. search needs)  -- slice-aggregate-put-bytes

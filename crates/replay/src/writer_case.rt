@@ -1,0 +1,208 @@
+// The writer's cases.
+ghost use mathlib.Core.Path.{_≡_};
+ghost use Prim.Native.Nat.{_<_};
+ghost use lib.ListN.{length};
+ghost use Rattle.replay.specs.Script.{Onward};
+use crate::line::LINE;
+use crate::line::put_letter;
+use crate::line::put_number;
+use crate::line::put_part;
+use crate::script::Call;
+use crate::script::Ran;
+use crate::script::WriterCase;
+use crate::script::read_call;
+use crate::script::read_writer_case;
+use sise_serializer::Phase;
+use sise_serializer::Put;
+use sise_serializer::Serializer;
+use sise_serializer::Wrote;
+
+// No line of a call is longer: it has a digit for each of up to 200 open lists.
+const CALL_LINE: usize = 400;
+
+// The threshold that a number in the script stands for.
+fn threshold(number: usize) -> u64 {
+    if number == 999999999 {
+        18446744073709551615
+    } else {
+        number as u64
+    }
+}
+
+fn put_answer(out: &mut [u8], at: usize, answer: Put) -> usize {
+    match answer {
+        Put::At(offset) => put_letter(out, at, b'@', offset),
+        Put::UnsoundRecord => put_letter(out, at, b'!', 11),
+        Put::InvalidAtom => put_letter(out, at, b'!', 17),
+        Put::NoListToEnd => put_letter(out, at, b'!', 18),
+        Put::WritingFinished => put_letter(out, at, b'!', 19),
+        Put::WritingNotFinished => put_letter(out, at, b'!', 20),
+        Put::TooDeep => put_letter(out, at, b'!', 21),
+        Put::NoRoom => put_letter(out, at, b'!', 22),
+    }
+}
+
+fn phase_number(phase: Phase) -> usize {
+    match phase {
+        Phase::Beginning => 0,
+        Phase::Writing => 1,
+        Phase::Finished => 2,
+        Phase::Done => 3,
+    }
+}
+
+fn bit(on: bool) -> u8 {
+    if on { b'1' } else { b'0' }
+}
+
+// Puts the flags of the open lists, of which there are 200 at most.
+fn put_flags(out: &mut [u8], from: usize, flags: [bool; 200], lists: usize) -> usize {
+    let mut at = from;
+    let mut i = 0;
+    while i < 200 {
+        if lists <= i {
+            return at;
+        }
+        at = lines::put_byte(out, at, bit(flags[i]));
+        i += 1;
+    }
+    at
+}
+
+fn put_counts(out: &mut [u8], at: usize, serializer: Serializer) -> usize {
+    let at = put_number(out, at, serializer.line_len);
+    let at = put_number(out, at, serializer.spaces);
+    let at = put_number(out, at, serializer.breaks);
+    put_number(out, at, serializer.indents)
+}
+
+fn put_state(out: &mut [u8], at: usize, serializer: Serializer) -> usize {
+    let phase = serializer.phase;
+    let at = put_number(out, at, serializer.position);
+    let at = put_number(out, at, phase_number(phase));
+    let at = put_number(out, at, serializer.lists);
+    let at = lines::put_byte(out, at, b' ');
+    lines::put_byte(out, at, bit(serializer.list_beginning))
+}
+
+fn put_record(out: &mut [u8], at: usize, serializer: Serializer) -> usize {
+    let flags = serializer.line_broken;
+    let at = lines::put_bytes(out, at, b" |");
+    let at = put_state(out, at, serializer);
+    let at = put_counts(out, at, serializer);
+    let at = lines::put_byte(out, at, b' ');
+    put_flags(out, at, flags, serializer.lists)
+}
+
+// The line of a call that left the record `serializer`.
+fn put_call(out: &mut [u8], at: usize, serializer: Serializer, answer: Put) -> usize {
+    let at = lines::make_room(out, at, CALL_LINE);
+    let at = put_answer(out, at, answer);
+    let at = put_record(out, at, serializer);
+    lines::put_byte(out, at, b'\n')
+}
+
+fn put_text(out: &mut [u8], at: usize, text: &[u8]) -> usize {
+    let at = lines::make_room(out, at, LINE);
+    let at = lines::put_bytes(out, at, b"= ");
+    let at = put_part(out, at, text);
+    lines::put_byte(out, at, b'\n')
+}
+
+// The line of what stands in the buffer up to the position, which no call moves past the buffer's end.
+fn put_written(out: &mut [u8], at: usize, buf: &[u8], position: usize) -> usize {
+    if buf.len() < position {
+        return at;
+    }
+    put_text(out, at, &buf[..position])
+}
+
+fn make_call(
+    serializer: Serializer,
+    line_break: &[u8],
+    indentation: &[u8],
+    buf: &mut [u8],
+    letter: u8,
+    atom: &[u8],
+    number: usize,
+) -> Wrote {
+    match letter {
+        b'A' => serializer.put_atom(line_break, indentation, buf, atom, threshold(number)),
+        b'(' => serializer.begin_list(line_break, indentation, buf, threshold(number)),
+        b')' => serializer.end_list(line_break, indentation, buf),
+        _ => serializer.finish(line_break, indentation, buf, number == 1),
+    }
+}
+
+// Makes the calls after the line end at `line_end`, all in one buffer.
+fn put_case(
+    out: &mut [u8],
+    place: usize,
+    script: &[u8],
+    line_end: usize,
+    calls: usize,
+    line_break: &[u8],
+    indentation: &[u8],
+    buf: &mut [u8],
+) -> Ran
+    requires { ⌜ «line_end» < length (now script) ⌝ }
+    ensures { λ r. ⌜ Onward «line_end» r ⌝ }
+{
+    let at = lines::make_room(out, place, LINE);
+    let mut at = lines::put_bytes(out, at, b"case\n");
+    let mut serializer = Serializer::new();
+    let mut from = line_end + 1;
+    let mut left = calls;
+    while 0 < left {
+        left -= 1;
+        let Call::Read { letter, number, start, end, next } = read_call(script, from) else {
+            return Ran::Malformed { place: at };
+        };
+        let wrote = make_call(serializer, line_break, indentation, buf, letter, &script[start..end], number);
+        serializer = wrote.serializer;
+        let answer = wrote.answer;
+        at = put_call(out, at, serializer, answer);
+        from = next;
+    }
+    Ran::Case {
+        place: put_written(out, at, buf, serializer.position),
+        next: from,
+    }
+}
+
+// The buffer that a case's calls write into a part of.
+fn memory() -> [u8; 4096]
+    ensures { λ r. ⌜ 4096 ≡ length r ⌝ }
+{
+    [170; 4096]
+}
+
+// Runs the writer's case whose letter stands before `from`.
+pub(crate) fn run(out: &mut [u8], at: usize, script: &[u8], from: usize) -> Ran
+    ensures { λ r. ⌜ Onward from r ⌝ }
+{
+    match read_writer_case(script, from) {
+        WriterCase::Read {
+            room,
+            start,
+            line_break,
+            indentation,
+            calls,
+        } => {
+            let middle = start + line_break;
+            let end = middle + indentation;
+            let mut buf = memory();
+            put_case(
+                out,
+                at,
+                script,
+                end,
+                calls,
+                &script[start..middle],
+                &script[middle..end],
+                &mut buf[..room],
+            )
+        }
+        WriterCase::Malformed => Ran::Malformed { place: at },
+    }
+}
