@@ -97,14 +97,16 @@ fn alphabet() -> Vec<Call> {
     ]
 }
 
-/// Every list of up to `longest` calls, also behind an opened list, in each style; one in three with a buffer as long as the text or one short.
+/// Every list of up to `longest` calls, also behind an opened list, in each style; two in seven with a buffer as long as the text
+/// or one short.
 pub fn exhaustive(longest: u32) -> impl Iterator<Item = WriterCase> {
     let alphabet = alphabet();
     let base = alphabet.len();
     (0..=longest).flat_map(move |len| {
         let alphabet = alphabet.clone();
         (0..base.pow(len) * STYLES.len() * 2).map(move |mut number| {
-            let room = number % 6;
+            // 7 has no factor in common with the other counts, so that each room meets each list.
+            let room = number % 7;
             let style = STYLES[number % STYLES.len()];
             number /= STYLES.len();
             let mut calls = vec![Call::BeginList(LARGEST); number % 2];

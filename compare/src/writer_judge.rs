@@ -1,6 +1,6 @@
 //! What is expected of a writer's case, by the model; on the way, the model is held against the crate.
 
-use crate::differences::Differences;
+use crate::differences::{Described, Differences};
 use crate::replay::Judges;
 use crate::script::CASE;
 use crate::serializer::{Kept, Serializer, SerializerStyle};
@@ -32,24 +32,8 @@ impl WriterJudge {
         let mut lines = Vec::new();
         for (number, call) in case.calls.iter().enumerate() {
             let answer = model.call(call);
-            let words = match answer {
-                Ok(offset) => format!("@ {offset}"),
-                Err(number) => format!("! {number}"),
-            };
-            lines.extend_from_slice(words.as_bytes());
-            lines.extend_from_slice(model.record().as_bytes());
-            original = match (answer, original) {
-                (Ok(_), Some(serializer)) => {
-                    self.accepted += 1;
-                    call_original(serializer, call)
-                }
-                (Err(17..=20), Some(serializer)) => {
-                    self.panics += 1;
-                    self.hold(case, number, panics(&serializer, call));
-                    Some(serializer)
-                }
-                (_, original) => original,
-            };
+            put_line(&mut lines, answer, &model);
+            original = self.follow(case, number, answer, original);
             if let Some(serializer) = &original {
                 self.hold(case, number, agree(&model, serializer));
             }
@@ -64,9 +48,34 @@ impl WriterJudge {
         lines
     }
 
+    /// Makes an accepted call on the crate's writer; where the model refuses with a panic's number, sees that the crate panics. 21 and 22 are
+    /// added, and so is 19 once `finish` has used the crate's writer up: there is nothing to hold them against.
+    fn follow<'a, 'b>(
+        &mut self,
+        case: &WriterCase,
+        number: usize,
+        answer: Result<usize, u8>,
+        original: Option<Serializer<'a, 'b>>,
+    ) -> Option<Serializer<'a, 'b>> {
+        let serializer = original?;
+        let call = &case.calls[number];
+        match answer {
+            Ok(_) => {
+                self.accepted += 1;
+                call_original(serializer, call)
+            }
+            Err(refusal) => {
+                if matches!(refusal, 17..=20) {
+                    self.panics += 1;
+                    self.hold(case, number, panics(&serializer, call));
+                }
+                Some(serializer)
+            }
+        }
+    }
+
     fn hold(&mut self, case: &WriterCase, number: usize, holds: bool) {
         if !holds {
-            use crate::differences::Described;
             self.disagreements
                 .note(|| format!("at call {number} (from 0): {}", case.describe()));
         }
@@ -95,6 +104,16 @@ impl Judges<WriterCase> for WriterJudge {
         }
         (script, answers)
     }
+}
+
+/// A call's answer and the record after it.
+fn put_line(out: &mut Vec<u8>, answer: Result<usize, u8>, model: &Model) {
+    let words = match answer {
+        Ok(offset) => format!("@ {offset}"),
+        Err(number) => format!("! {number}"),
+    };
+    out.extend_from_slice(words.as_bytes());
+    out.extend_from_slice(model.record().as_bytes());
 }
 
 /// The crate's threshold is a `usize`, here as wide as document 01's.

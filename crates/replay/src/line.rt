@@ -1,6 +1,6 @@
 // The parts of a line of answers.
 
-// No line is longer, but for a part of a text, and the writer's.
+// No line is longer, but for those with a part of a text, and those of the writer's calls.
 pub(crate) const LINE: usize = 64;
 
 pub(crate) fn put_number(out: &mut [u8], at: usize, n: usize) -> usize {

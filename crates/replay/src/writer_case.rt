@@ -155,10 +155,25 @@ fn put_case(
     let mut left = calls;
     while 0 < left {
         left -= 1;
-        let Call::Read { letter, number, start, end, next } = read_call(script, from) else {
+        let Call::Read {
+            letter,
+            number,
+            start,
+            end,
+            next,
+        } = read_call(script, from)
+        else {
             return Ran::Malformed { place: at };
         };
-        let wrote = make_call(serializer, line_break, indentation, buf, letter, &script[start..end], number);
+        let wrote = make_call(
+            serializer,
+            line_break,
+            indentation,
+            buf,
+            letter,
+            &script[start..end],
+            number,
+        );
         serializer = wrote.serializer;
         let answer = wrote.answer;
         at = put_call(out, at, serializer, answer);
