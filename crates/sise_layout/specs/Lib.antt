@@ -4,3 +4,4 @@ pub mod Nodes
 pub mod Claim
 pub mod Examples
 pub mod Words
+pub mod WordExamples
