@@ -1,7 +1,7 @@
 -- What is left of a list of calls while it runs: each call's words are taken from the front, and its answer's word is set at its index, so what running
 -- the rest leaves stays the same.
 -- Assumes nothing.
-use Prim.Native.Nat.{ℕ, zero, suc, _+_, _-_, _≤_, _<_}
+use Prim.Native.Nat.{ℕ, suc, _+_, _-_, _≤_, _<_}
 use native.Mathlib.Nat.{add-zero, zero-add}
 use native.Mathlib.Omega.{arith}
 use mathlib.Core.Path.{_≡_, refl, sym, ap, _∙_}

@@ -4,4 +4,5 @@ pub mod Nodes
 pub mod Claim
 pub mod Words
 pub mod Examples
+pub mod WordExamples
 pub mod Rows
