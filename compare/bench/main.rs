@@ -1,7 +1,12 @@
 //! The proved library and the crate sise 0.8.0 on the same texts, in one program: rounds in turn, the least time of each, and the ratio of the two.
 //! A ratio above 1 says that the library is faster.
 
+extern crate alloc;
+
+mod writing;
+
 use std::time::Instant;
+use writing::Writing;
 
 mod util {
     include!(concat!(env!("SISE_SRC"), "/util.rs"));
@@ -11,8 +16,12 @@ mod parser {
     include!(concat!(env!("SISE_SRC"), "/parser.rs"));
 }
 
+mod serializer {
+    include!(concat!(env!("SISE_SRC"), "/serializer.rs"));
+}
+
 use parser::{ParsedItem, Parser};
-pub use util::{is_atom_chr, is_atom_string_chr};
+pub use util::{check_atom, is_atom_chr, is_atom_string_chr};
 
 extern "C" {
     fn sise_count_items(text: *const u8, len: usize) -> u64;
@@ -44,7 +53,7 @@ fn crate_items(text: &str) -> u64 {
 
 const ROUNDS: usize = 30;
 
-fn seconds(run: impl Fn() -> u64) -> f64 {
+fn seconds(mut run: impl FnMut() -> u64) -> f64 {
     let start = Instant::now();
     std::hint::black_box(run());
     start.elapsed().as_secs_f64()
@@ -76,6 +85,21 @@ fn row(name: &str, text: &str) {
     println!("{name:<28} {:>10} bytes {rate:>8.0} MB/s {:>8.2}", text.len(), original / library);
 }
 
+/// The items of a text written again, all at one threshold.
+fn written(name: &str, text: &str, threshold: usize) {
+    let mut writing = Writing::new(text, threshold);
+    assert!(writing.agrees());
+    let mut best = (f64::MAX, f64::MAX);
+    for _ in 0..ROUNDS {
+        best.0 = best.0.min(seconds(|| writing.by_library()));
+        best.1 = best.1.min(seconds(|| writing.by_crate()));
+    }
+    let (library, original) = best;
+    let calls = writing.calls();
+    let time = library / calls as f64 * 1e9;
+    println!("{name:<28} {calls:>10} calls {time:>8.0} ns/call {:>7.2}", original / library);
+}
+
 fn main() {
     const SIZE: usize = 1_000_000;
     println!("{:<28} {:>16} {:>13} {:>8}", "reading", "", "library", "ratio");
@@ -88,4 +112,12 @@ fn main() {
     for size in [10_000, 100_000, 1_000_000, 16_000_000] {
         row("typical profile, growing", &typical(size));
     }
+    println!("{:<28} {:>16} {:>16} {:>7}", "writing", "", "library", "ratio");
+    let profile = typical(SIZE);
+    written("typical profile, broken", &profile, 0);
+    written("typical profile, at 80", &profile, 80);
+    written("typical profile, one line", &profile, usize::MAX);
+    let long = list_of(&format!("{} ", "travel-limit.".repeat(100)), SIZE);
+    written("long atoms, at 80", &long, 80);
+    written("one atom alone", "limit", 80);
 }
