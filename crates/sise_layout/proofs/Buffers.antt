@@ -10,10 +10,10 @@ use lib.Seq.{take-at, length-take-le}
 use Rattle.sise_serializer.specs.Bytes.{pasted}
 use Rattle.sise_serializer.specs.Serializer.{Style, Written, limit, last, freshSerializer}
 use Rattle.sise_serializer.specs.declared.serializer.Serializer.{Serializer}
+use Rattle.sise_serializer.proofs.Bytes.{pasted-none}
 use Rattle.sise_layout.specs.Calls.{Call, Placed, Run, run, writing, textOf, itemOf, step}
 use Rattle.sise_layout.proofs.Pieces.{Aligned}
-use Rattle.sise_layout.proofs.Outcomes.{Outcome, same, adds, ends, outcome, endOf}
-use Rattle.sise_layout.proofs.Refused.{pasted-none}
+use Rattle.sise_layout.proofs.Outcomes.{Outcome, same, adds, ends, outcome}
 use Rattle.sise_layout.proofs.Written.{Writes, writes, fresh-aligned, last-aligned, last-position}
 
 -- bytes that fit

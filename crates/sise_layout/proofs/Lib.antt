@@ -3,6 +3,7 @@ pub mod Blanks
 pub mod Following
 pub mod ReaderSteps
 pub mod Pieces
+pub mod Verdicts
 pub mod Outcomes
 pub mod Written
 pub mod ReadBack

@@ -5,20 +5,21 @@ use Prim.Native.Nat.{ℕ, suc, _+_, _-_, _≤_, _<_}
 use native.Mathlib.Nat.{add-zero, zero-add}
 use native.Mathlib.Omega.{arith}
 use mathlib.Core.Path.{_≡_, refl, sym, ap, _∙_}
-use mathlib.Core.Bool.{Bool, true, false, false≢true, _&&_, cond}
+use mathlib.Core.Bool.{Bool, true, false, _&&_, cond}
 use mathlib.Core.List.{List, [], _∷_, _++_, map}
 use lib.Dec.{leb}
 use lib.ListN.{length, getD, take, drop, set, length-drop, length-set}
 use lib.Seq.{take-nil, drop-cons, take-suc-set, drop-set-lt, append-snoc}
 use borrow.Author.Tests.{leb-true, leb-false, le-leb, lt-leb, eq-eqb, ne-eqb}
 use Rattle.sise_parser.specs.Reader.{partOf}
+use Rattle.sise_parser.proofs.Calls.{and-first, and-second}
 use Rattle.sise_serializer.specs.Bytes.{pasted}
 use Rattle.sise_serializer.specs.Serializer.{Style, answerAs, Does, freshSerializer}
 use Rattle.sise_serializer.specs.declared.serializer.Serializer.{Serializer}
 use Rattle.sise_serializer.specs.declared.serializer.Wrote.{Wrote}
+use Rattle.sise_serializer.proofs.Bytes.{pasted-none}
 use Rattle.sise_layout.specs.Calls.{Call, putAtomCall, beginListCall, endListCall, finishCall, step, run, writing}
 use Rattle.sise_layout.specs.Words.{callOf, callAt, hasCall, decoded, callsOf, answerWord, Runs}
-use Rattle.sise_layout.proofs.Refused.{pasted-none}
 
 -- ---- the call of a kind
 
@@ -60,10 +61,6 @@ and-false : {A : Type 0} (x y : Bool) → (x && y) ≡ false → (x ≡ false �
 and-false true y h f g = g refl h
 and-false false y h f g = f refl
 
-and-true : (x y : Bool) → (x && y) ≡ true → (x ≡ true) × (y ≡ true)
-and-true true y h = (refl, h)
-and-true false y h = absurd (false≢true h)
-
 module _ (words : List ℕ) (at : ℕ) where
   pub has-short : length words - at < 4 → hasCall words at ≡ false
   unfolding hasCall
@@ -75,7 +72,7 @@ module _ (words : List ℕ) (at : ℕ) where
 
   pub has-room : at ≤ length words → hasCall words at ≡ true → at + 4 ≤ length words
   unfolding hasCall
-  has-room p h = let e = and-true (leb 4 (length words - at)) (leb (getD words at 0) 4) h .0 in omega (arith, leb-true 4 (length words - at) e)
+  has-room p h = let e = and-first (leb 4 (length words - at)) (leb (getD words at 0) 4) h in omega (arith, leb-true 4 (length words - at) e)
 
 module _ (words atoms : List ℕ) (at : ℕ) where
   four : at + 4 ≤ length words → drop at words ≡ getD words at 0 ∷ getD words (at + 1) 0 ∷ getD words (at + 2) 0 ∷ getD words (at + 3) 0 ∷ drop (at + 4) words
@@ -101,7 +98,7 @@ module _ (words atoms : List ℕ) (at : ℕ) where
 
   rest-call : at ≤ length words → hasCall words at ≡ true → decoded (drop at words) atoms ≡ callAt words atoms at ∷ decoded (drop (at + 4) words) atoms
   unfolding hasCall
-  rest-call p h = rest-as (has-room words at p h) (and-true (leb 4 (length words - at)) _ h .1)
+  rest-call p h = rest-as (has-room words at p h) (and-second (leb 4 (length words - at)) _ h)
 
 -- ---- answers
 

@@ -15,7 +15,8 @@ use Rattle.sise_layout.specs.Calls.{Call, step, Styled, answersOf, isNot
 use Rattle.sise_layout.specs.Reading.{All, none, more}
 use Rattle.sise_layout.proofs.Blanks.{both}
 use Rattle.sise_layout.proofs.Pieces.{Aligned, Bounded}
-use Rattle.sise_layout.proofs.Outcomes.{Outcome, same, adds, ends, outcome, endOf}
+use Rattle.sise_layout.proofs.Outcomes.{Outcome, same, adds, ends, outcome}
+use Rattle.sise_layout.proofs.Verdicts.{endOf}
 use Rattle.sise_layout.proofs.Written.{fresh-aligned, last-aligned}
 
 sound-of : (w : Serializer) → Aligned w → Bounded w → isSound w ≡ true

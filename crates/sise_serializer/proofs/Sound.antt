@@ -11,7 +11,8 @@ use Rattle.sise_serializer.specs.Parts.{Small}
 use Rattle.sise_serializer.specs.declared.serializer.Phase.{Phase}
 use Rattle.sise_serializer.specs.declared.serializer.Phase.the-variants.{Beginning, Writing, Finished, Done}
 use Rattle.sise_serializer.specs.declared.serializer.Serializer.{Serializer}
-use Rattle.sise_serializer.proofs.Tests.{split, and-left, and-right}
+use Rattle.sise_util.proofs.Ranges.{split}
+use Rattle.sise_serializer.proofs.Tests.{and-left, and-right}
 
 -- the tests but the last
 pub record Checked (w : Serializer) : Type 0 where

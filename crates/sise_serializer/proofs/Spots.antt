@@ -13,7 +13,7 @@ use Rattle.sise_serializer.specs.Parts.{spotOf, Placed}
 use Rattle.sise_serializer.specs.Bytes.{repeat}
 use Rattle.sise_serializer.specs.declared.buffer.Spot.{Spot}
 use Rattle.sise_serializer.proofs.Bytes.{layout-length}
-use Rattle.sise_serializer.proofs.Tests.{split}
+use Rattle.sise_util.proofs.Ranges.{split}
 use Rattle.sise_serializer.specs.declared.buffer.Spot.the-variants.{At, NoRoom}
 
 -- what is known of a token with a spot

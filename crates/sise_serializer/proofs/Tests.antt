@@ -7,11 +7,7 @@ use mathlib.Core.Path.{_≡_, refl, sym, _∙_}
 use mathlib.Core.Bool.{Bool, true, false, false≢true, _&&_, cond}
 use lib.Dec.{leb}
 use borrow.Author.Tests.{le-leb, lt-leb, leb-true, leb-false}
-
--- by the two answers of a test, each kept as an equation
-pub split : {A : Type 0} (x : Bool) → (x ≡ true → A) → (x ≡ false → A) → A
-split true f g = f refl
-split false f g = g refl
+use Rattle.sise_util.proofs.Ranges.{split}
 
 pub and-left : (a b : Bool) → a && b ≡ true → a ≡ true
 and-left true b h = refl
