@@ -13,14 +13,15 @@ use Rattle.sise_serializer.specs.declared.serializer.Serializer.{Serializer}
 use Rattle.sise_layout.specs.Calls.{Call, Item, atom, listStart, listEnd, Placed, placed, itemsOf, writing, Finishes, textOf, Blank}
 use Rattle.sise_layout.specs.Reading.{asRead, Stands, All, none, more, Gives, itemRead, itemsRead}
 use Rattle.sise_layout.specs.Nodes.{Node}
-use Rattle.sise_layout.specs.Claim.{Holds}
+use Rattle.sise_layout.specs.Claim.{Spells, Holds}
 use Rattle.sise_serializer.specs.Examples.{house}
-use Rattle.sise_layout.specs.Examples.{used, worked, workedItems, Shown, shown, at-4, at-5, house-blank}
+use Rattle.sise_layout.specs.Examples.{used, worked, workedItems, Shown, shown, at-4, at-5, at-4-finishes, at-5-finishes, house-blank}
 use Rattle.sise_layout.proofs.Following.{follows-gives}
 use Rattle.sise_layout.proofs.Written.{writes}
 use Rattle.sise_layout.proofs.ReadBack.{follows}
 use Rattle.sise_layout.proofs.Lengths.{its-length}
 use Rattle.sise_layout.proofs.OneNode.{one-node}
+use Rattle.sise_layout.proofs.Ended.{ends-done}
 use Rattle.sise_layout.proofs.Buffers.{same-last, same-items, same-text}
 
 -- what the answers to items say, places aside
@@ -47,22 +48,30 @@ module _ (text : List ℕ) where
   all-read (more {a = p} s t) (suc k) m = ap₂ (λ (x y : List Item). x ++ y) (item-read p s) (all-read t k m)
 
 -- one writing
-module _ (s : Style) (blank : Blank s) (buffer : List ℕ) (cs : List Call) (finished : Finishes s buffer cs) where
+module _ (s : Style) (buffer : List ℕ) (cs : List Call) (finished : Finishes s buffer cs) where
   abbrev n : ℕ
   n = length buffer
 
   done : writes s n freshSerializer cs .last .phase ≡ Done
-  done = ap (λ (w : Serializer). w .phase) (sym (same-last s buffer cs)) ∙ finished
+  done = ap (λ (w : Serializer). w .phase) (sym (same-last s buffer cs)) ∙ ends-done s cs buffer freshSerializer finished
 
-  gives : Gives (textOf (writing s buffer cs)) (writing s buffer cs .items)
-  gives = rw (same-text s buffer cs, same-items s buffer cs) (follows-gives _ (follows s blank n cs done))
-
-  pub one-writing : Holds s buffer cs (itemsOf (writing s buffer cs .items))
-  one-writing = record {
-    gives = gives;
-    reads = λ k. ap (itemsRead (textOf (writing s buffer cs))) (gives .answers k) ∙ all-read (textOf (writing s buffer cs)) (gives .bytes) k (k - length (writing s buffer cs .items));
+  -- with any style
+  pub any-style : Spells s buffer cs (itemsOf (writing s buffer cs .items))
+  any-style = record {
     node = rw (same-items s buffer cs) (one-node s n cs done);
     size = rw (same-text s buffer cs, same-items s buffer cs, same-last s buffer cs) (its-length s n cs done ∙ omega arith);
+  }
+
+  gives : Blank s → Gives (textOf (writing s buffer cs)) (writing s buffer cs .items)
+  gives blank = rw (same-text s buffer cs, same-items s buffer cs) (follows-gives _ (follows s blank n cs done))
+
+  pub one-writing : Blank s → Holds s buffer cs (itemsOf (writing s buffer cs .items))
+  one-writing blank = record {
+    gives = gives blank;
+    reads =
+        λ k. ap (itemsRead (textOf (writing s buffer cs))) (gives blank .answers k)
+        ∙ all-read (textOf (writing s buffer cs)) (gives blank .bytes) k (k - length (writing s buffer cs .items));
+    spells = any-style;
   }
 
 -- two writings, each with its own style, buffer and calls, thresholds among them, and the refused ones: if both are of these items, what is read from
@@ -72,12 +81,12 @@ pub only-layout-differs : (items : List Item)
     → Blank s₁ → Finishes s₁ buffer₁ calls₁ → itemsOf (writing s₁ buffer₁ calls₁ .items) ≡ items
     → Blank s₂ → Finishes s₂ buffer₂ calls₂ → itemsOf (writing s₂ buffer₂ calls₂ .items) ≡ items
     → Holds s₁ buffer₁ calls₁ items × Holds s₂ buffer₂ calls₂ items
-only-layout-differs items s₁ b₁ c₁ s₂ b₂ c₂ k₁ f₁ e₁ k₂ f₂ e₂ = (rw e₁ at (one-writing s₁ k₁ b₁ c₁ f₁), rw e₂ at (one-writing s₂ k₂ b₂ c₂ f₂))
+only-layout-differs items s₁ b₁ c₁ s₂ b₂ c₂ k₁ f₁ e₁ k₂ f₂ e₂ = (rw e₁ at (one-writing s₁ b₁ c₁ f₁ k₁), rw e₂ at (one-writing s₂ b₂ c₂ f₂ k₂))
 
 -- document 01's worked writing at both thresholds is an instance
 worked-alike : Holds house used (worked 4) workedItems × Holds house used (worked 5) workedItems
 unfolding shown
 worked-alike =
     only-layout-differs workedItems house used (worked 4) house used (worked 5)
-    house-blank (ap (λ (s : Shown). s .phase) at-4) (ap (λ (s : Shown). s .items) at-4)
-    house-blank (ap (λ (s : Shown). s .phase) at-5) (ap (λ (s : Shown). s .items) at-5)
+    house-blank at-4-finishes (ap (λ (s : Shown). s .items) at-4)
+    house-blank at-5-finishes (ap (λ (s : Shown). s .items) at-5)

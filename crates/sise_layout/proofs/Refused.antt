@@ -12,7 +12,7 @@ use Rattle.sise_serializer.proofs.Bytes.{pasted-none}
 use Rattle.sise_layout.specs.Calls.{Call, step}
 use Rattle.sise_layout.proofs.Verdicts.{Verdict, refuses, puts, verdict}
 
-abbrev isAccepted : Answer → Bool
+abbrev pub isAccepted : Answer → Bool
 isAccepted (accepted o) = true
 isAccepted (refused n) = false
 

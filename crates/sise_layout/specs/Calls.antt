@@ -9,7 +9,6 @@ use lib.ListN.{length, take}
 use Rattle.sise_util.specs.Chars.{oneOf}
 use Rattle.sise_serializer.specs.Bytes.{pasted}
 use Rattle.sise_serializer.specs.Serializer.{Style, Answer, accepted, refused, Written, putAtom, beginList, endList, finishWriting, freshSerializer}
-use Rattle.sise_serializer.specs.declared.serializer.Phase.the-variants.{Done}
 use Rattle.sise_serializer.specs.declared.serializer.Serializer.{Serializer}
 
 -- "Atom, threshold and the wish for a final break are free at each call"
@@ -74,15 +73,20 @@ run s buffer w (c ∷ cs) =
 abbrev pub writing : Style → List ℕ → List Call → Run
 writing s buffer cs = run s buffer freshSerializer cs
 
--- "a `finish` is accepted"
+-- "a `finish` is accepted": one of the calls, by its answer
+pub data FinishAccepted : List Call → List Answer → Type 0 where
+  here : {wished : Bool} {o : ℕ} {cs : List Call} {l : List Answer} → FinishAccepted (finishCall wished ∷ cs) (accepted o ∷ l)
+  later : {c : Call} {a : Answer} {cs : List Call} {l : List Answer} → FinishAccepted cs l → FinishAccepted (c ∷ cs) (a ∷ l)
+
 abbrev pub Finishes : Style → List ℕ → List Call → Type 0
-Finishes s buffer cs = writing s buffer cs .last .phase ≡ Done
+Finishes s buffer cs = FinishAccepted cs (writing s buffer cs .answers)
 
 -- "the buffer's part up to the position that the accepted `finish` returned"
 abbrev pub textOf : Run → List ℕ
 textOf r = take (r .last .position) (r .buffer)
 
--- "line_break not empty, both strings of space, tab, CR and LF"
+-- Blank is a premise of what is said of reading, and not one of document 01's: a line break of no bytes would join two atoms, and one with other bytes
+-- would be read as items or comments. It asks that line_break is not empty and both strings are of space, tab, CR and LF
 abbrev pub isBlank : ℕ → Bool
 isBlank b = oneOf (32 ∷ 9 ∷ 13 ∷ 10 ∷ []) b
 

@@ -10,10 +10,15 @@ use Rattle.sise_layout.specs.Calls.{Call, Item, Run, writing, itemsOf, t
 use Rattle.sise_layout.specs.Reading.{Gives, itemsRead}
 use Rattle.sise_layout.specs.Nodes.{Node}
 
--- the length of a text by its items and "the three counts ... in the record returned"
+-- the length of a text by its items and the three counts, "those in the record returned"
 abbrev pub lengthBy : Style → Run → List Item → ℕ
 lengthBy s r items =
     atomBytes items + 2 * lists items + r .last .spaces + r .last .breaks * length (s .lineBreak) + r .last .indents * length (s .indentation)
+
+-- what needs nothing of the style: "the items spell exactly one node", and the text's length
+pub record Spells (s : Style) (buffer : List ℕ) (cs : List Call) (items : List Item) : Type 0 where
+  pub node : Node items
+  pub size : length (textOf (writing s buffer cs)) ≡ lengthBy s (writing s buffer cs) items
 
 -- these calls wrote exactly these items, whatever the layout
 pub record Holds (s : Style) (buffer : List ℕ) (cs : List Call) (items : List Item) : Type 0 where
@@ -21,6 +26,4 @@ pub record Holds (s : Style) (buffer : List ℕ) (cs : List Call) (items : List 
   pub gives : Gives (textOf (writing s buffer cs)) (writing s buffer cs .items)
   -- what k calls read, places aside, are the first k items
   pub reads : (k : ℕ) → itemsRead (textOf (writing s buffer cs)) (answersFrom (textOf (writing s buffer cs)) freshReader k) ≡ take k items
-  -- "the items spell exactly one node"
-  pub node : Node items
-  pub size : length (textOf (writing s buffer cs)) ≡ lengthBy s (writing s buffer cs) items
+  pub spells : Spells s buffer cs items

@@ -14,7 +14,7 @@ use Rattle.sise_serializer.specs.Examples.{house}
 use Rattle.sise_serializer.specs.Serializer.{freshSerializer, isSound, place, firstAtom, firstList, laid, innerAs, inner, phaseAfter, flagsAfter, closeAs, close, last, putIn, putAtom, beginIn, beginList, endIn, endList, finishIn, finishWriting}
 use Rattle.sise_serializer.specs.declared.serializer.Phase.{Phase}
 use Rattle.sise_serializer.specs.declared.serializer.Phase.the-variants.{Done}
-use Rattle.sise_layout.specs.Calls.{Call, putAtomCall, beginListCall, endListCall, finishCall, Item, atom, listStart, listEnd, Placed, itemsOf, step, itemAt, Run, run, writing, textOf, Blank}
+use Rattle.sise_layout.specs.Calls.{Call, putAtomCall, beginListCall, endListCall, finishCall, Item, atom, listStart, listEnd, Placed, itemsOf, step, itemAt, Run, run, writing, FinishAccepted, here, later, Finishes, textOf, Blank}
 
 abbrev largest : ℕ
 largest = 2 ^ 64 - 1
@@ -82,3 +82,11 @@ at-5 = refl
 pub house-blank : Blank house
 unfolding house oneOf
 house-blank = record { notEmpty = lit< tt; lineBreak = refl; indentation = refl }
+
+pub at-4-finishes : Finishes house used (worked 4)
+unfolding house worked used run step itemAt pasted freshSerializer isSound place firstAtom firstList laid innerAs inner phaseAfter flagsAfter closeAs close last putIn putAtom beginIn beginList endIn endList finishIn finishWriting isAtom outside inside escaped classOf isAtomChr marks oneOf within
+at-4-finishes = later (later (later (later (later (later (later (later here)))))))
+
+pub at-5-finishes : Finishes house used (worked 5)
+unfolding house worked used run step itemAt pasted freshSerializer isSound place firstAtom firstList laid innerAs inner phaseAfter flagsAfter closeAs close last putIn putAtom beginIn beginList endIn endList finishIn finishWriting isAtom outside inside escaped classOf isAtomChr marks oneOf within
+at-5-finishes = later (later (later (later (later (later (later (later here)))))))

@@ -59,7 +59,7 @@ pub rows-1-to-10 : rows1to10 ≡
 unfolding rows1to10 asked finishAfter afterCalls nextItem nextIn isSound tokenAt inBeginning inParsing finishReading finishIn endsAt between comment plain string escape wrong classOf character byRows forms follow within
 rows-1-to-10 = refl
 
--- a comment that meets the end afterCalls the last item is the end; the place of `"\` is 2; a tab may not stand in a string
+-- a comment that meets the end after the last item is the end; the place of `"\` is 2; a tab may not stand in a string
 pub slips : finishAfter (97 ∷ 59 ∷ 98 ∷ []) 1 ≡ ended
 unfolding asked finishAfter afterCalls nextItem nextIn isSound tokenAt inBeginning inParsing finishReading finishIn endsAt between comment plain string escape wrong classOf character byRows forms follow within
 slips = refl

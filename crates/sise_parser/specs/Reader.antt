@@ -16,7 +16,7 @@ use Rattle.sise_parser.specs.declared.reader.ParsedItem.the-variants.{At
 abbrev pub reader : ℕ → Phase → ℕ → Reader
 reader p f n = record { position = p; phase = f; lists = n }
 
--- "a fresh reader (position 0, beginning, no open list)"
+-- "a fresh reader": "position 0, beginning, no open list"
 abbrev pub freshReader : Reader
 freshReader = reader 0 Beginning 0
 
@@ -47,7 +47,7 @@ next r a = record { reader = r; answer = a }
 abbrev pub refusedWith : ℕ → Answer
 refusedWith n = refused (refusal n 0 0)
 
--- "A list closes at its `)`; the last close gives finishing"
+-- "A list closes at its `)`; the last close ... gives finishing"
 abbrev pub closed : ℕ → ℕ → Reader
 closed p n = cond (eqb n 1) (reader p Finishing 0) (reader p Parsing (n - 1))
 
@@ -118,6 +118,6 @@ finishReading text r =
       | false ↦ notEnded (refusal 11 0 0)
     ]
 
--- "that part of the caller's text, and an empty part if the place and length asked lie outside it"
+-- "that part of the caller's text, and ... an empty part if the place and length asked lie outside it"
 unfoldable pub partOf : List ℕ → ℕ → ℕ → List ℕ
 partOf text place n = elim (leb (place + n) (length text)) [ true ↦ take n (drop place text) | false ↦ [] ]
