@@ -1,0 +1,7 @@
+pub mod Tree
+pub mod Decision
+pub mod Answers
+pub mod ParseTree
+pub mod IndexPath
+pub mod SerializeTree
+pub mod Parts

@@ -1,0 +1,110 @@
+-- What parse_tree answers and writes (document 01, "Trees" and "Refusals").
+-- Assumes nothing.
+use Prim.Native.Nat.{ℕ, zero, suc, _*_, _/_}
+use mathlib.Core.Path.{_≡_}
+use mathlib.Core.Bool.{Bool, true, false, cond}
+use mathlib.Core.List.{List, [], _∷_, _++_}
+use lib.Dec.{leb, ltb}
+use lib.ListN.{length, drop}
+use Rattle.sise_parser.specs.Refusals.{Refusal, refusal}
+use Rattle.sise_parser.specs.Reader as reader
+use Rattle.sise_parser.specs.Reader.{nextItem}
+use Rattle.sise_parser.specs.declared.reader.Reader.{Reader}
+use Rattle.sise_parser.specs.declared.reader.ParsedItem.{ParsedItem}
+use Rattle.sise_parser.specs.declared.reader.ParsedItem.the-variants.{Atom, ListStart, ListEnd}
+use Rattle.sise_tree.specs.Tree.{Node, atom, list, Nodes, empty, _then_, size, table}
+use Rattle.sise_tree.specs.Answers.{Answer, answered, refused, refusedWith, parsedAs}
+use Rattle.sise_tree.specs.declared.parse.TreeRead.{TreeRead}
+
+-- 13's limit: "text over 16,777,216 bytes"
+abbrev pub longest : ℕ
+longest = 16777216
+
+unfoldable pub snoc : Nodes → Node → Nodes
+snoc empty n = n then empty
+snoc (m then c) n = m then snoc c n
+
+infixl 20 _▹_
+-- the lists that are open, the innermost last, each with the children that it has so far
+pub data Frames : Type 0 where
+  top : Frames
+  _▹_ : Frames → Nodes → Frames
+
+-- reading a node goes on with the open lists, ends with the node, or meets a `)` where a node is due
+pub data Stage : Type 0 where
+  inside : Frames → Stage
+  whole : Node → Stage
+  closes : ℕ → Stage
+
+-- a node is read where these lists are open
+unfoldable pub attach : Frames → Node → Stage
+attach top n = whole n
+attach (f ▹ c) n = inside (f ▹ snoc c n)
+
+-- a list closes, by the `)` at the place p
+unfoldable pub close : Frames → ℕ → Stage
+close top p = closes p
+close (f ▹ c) p = attach f (list c)
+
+-- what an item makes of it
+unfoldable pub turn : Frames → ParsedItem → Stage
+turn f (Atom p n) = attach f (atom p n)
+turn f (ListStart p) = inside (f ▹ empty)
+turn f (ListEnd p) = close f p
+
+-- what reading a node gives: the node, or the first refusal, and the record that the last call left
+pub data ReadNode : Type 0 where
+  got : Node → Reader → ReadNode
+  stopped : Refusal → Reader → ReadNode
+
+unfoldable mutual
+  -- item after item, with these lists open; the first number bounds the items
+  pub readFrom : ℕ → List ℕ → Reader → Frames → ReadNode
+  readFrom zero text r f = stopped (refusal 11 0 0) r
+  readFrom (suc k) text r f = readNext k text (nextItem text r .reader) f (nextItem text r .answer)
+
+  -- "a text refusal leaves the reader as the inner next_item did"
+  pub readNext : ℕ → List ℕ → Reader → Frames → reader.Answer → ReadNode
+  readNext k text r f (reader.Answer.item i) = readStage k text r (turn f i)
+  readNext k text r f (reader.Answer.refused e) = stopped e r
+
+  -- 12: "a list closes where a node is due; place"
+  pub readStage : ℕ → List ℕ → Reader → Stage → ReadNode
+  readStage k text r (inside f) = readFrom k text r f
+  readStage k text r (whole n) = got n r
+  readStage k text r (closes p) = stopped (refusal 12 p 0) r
+
+-- "A reader over n bytes gives at most n items", so one call more is enough
+unfoldable pub readNode : List ℕ → Reader → ReadNode
+readNode text r = readFrom (suc (length text)) text r top
+
+-- what parse_tree leaves: the reader's record, its answer, and the table's words
+pub record Parses : Type 0 where
+  pub reader : Reader
+  pub answer : Answer
+  pub words : List ℕ
+
+-- "fills its words and no others"
+unfoldable pub filledWith : Node → List ℕ → List ℕ
+filledWith n words = table n ++ drop (4 * size n) words
+
+-- 14: "more nodes than the table's length / 4, rounded down", which leaves the reader "as at entry"
+unfoldable pub parsed : Reader → List ℕ → ReadNode → Parses
+parsed r words (stopped e q) = record { reader = q; answer = refused e; words = words }
+parsed r words (got n q) =
+    cond (leb (size n) (length words / 4))
+    (record { reader = q; answer = answered (size n); words = filledWith n words })
+    (record { reader = r; answer = refusedWith 14; words = words })
+
+-- "`parse_tree`: 13, 11, 9, the first text refusal or 12, then 14"
+unfoldable pub parseTree : List ℕ → Reader → List ℕ → Parses
+parseTree text r words =
+    cond (ltb longest (length text))
+    (record { reader = r; answer = refusedWith 13; words = words })
+    (parsed r words (readNode text r))
+
+-- what a call promises, that ended with the result r and the words `now`: it does as d says
+pub record DoesParse (d : Parses) (r : TreeRead) (now : List ℕ) : Type 0 where
+  pub reader : r .reader ≡ d .reader
+  pub answer : parsedAs (r .answer) ≡ d .answer
+  pub words : now ≡ d .words

@@ -1,0 +1,133 @@
+-- What serialize_tree answers and writes (document 01, "Trees" and "Refusals"), and the house style.
+-- Assumes nothing.
+use Prim.Native.Nat.{ℕ, _+_, _-_, _^_}
+use mathlib.Core.Path.{_≡_}
+use mathlib.Core.Bool.{Bool, true, false, _&&_, cond}
+use mathlib.Core.Option.{Option, none, some}
+use mathlib.Core.List.{List, [], _∷_, _++_}
+use lib.Dec.{ltb}
+use lib.ListN.{length, drop}
+use Rattle.sise_util.specs.Atom.{isAtomPrefix}
+use Rattle.sise_parser.specs.Reader.{partOf}
+use Rattle.sise_serializer.specs.Serializer as writer
+use Rattle.sise_serializer.specs.Serializer.{Style, style, Written, isSound, deepest, freshSerializer}
+use Rattle.sise_serializer.specs.declared.serializer.Phase.{Phase}
+use Rattle.sise_serializer.specs.declared.serializer.Phase.the-variants.{Beginning, Writing, Finished, Done}
+use Rattle.sise_serializer.specs.declared.serializer.Serializer.{Serializer}
+use Rattle.sise_layout.specs.Calls.{Call, putAtomCall, beginListCall, endListCall, finishCall, step, Run, run}
+use Rattle.sise_tree.specs.Tree.{Node, atom, list, Nodes, empty, _then_, depth}
+use Rattle.sise_tree.specs.Decision.{decide}
+use Rattle.sise_tree.specs.ParseTree.{longest}
+use Rattle.sise_tree.specs.Answers.{Answer, answered, refused, refusedWith, putAs}
+use Rattle.sise_tree.specs.declared.serialize.TreeWrote.{TreeWrote}
+
+-- a threshold "of 64 unsigned bits (largest: all ones)"
+abbrev pub largest : ℕ
+largest = 2 ^ 64 - 1
+
+unfoldable mutual
+  -- a tree's calls at the threshold t
+  pub nodeCalls : List ℕ → ℕ → Node → List Call
+  nodeCalls text t (atom p n) = putAtomCall (partOf text p n) t ∷ []
+  nodeCalls text t (list c) = beginListCall t ∷ (firstCalls text t c ++ endListCall ∷ [])
+
+  -- "gives a list's first child, if an atom, the largest threshold, all else the given one"
+  pub firstCalls : List ℕ → ℕ → Nodes → List Call
+  firstCalls text t empty = []
+  firstCalls text t (atom p n then c) = putAtomCall (partOf text p n) largest ∷ rowCalls text t c
+  firstCalls text t (list d then c) = nodeCalls text t (list d) ++ rowCalls text t c
+
+  pub rowCalls : List ℕ → ℕ → Nodes → List Call
+  rowCalls text t empty = []
+  rowCalls text t (n then c) = nodeCalls text t n ++ rowCalls text t c
+
+unfoldable mutual
+  -- each atom is one: "the check of an atom is handed the rest of the text from its first byte, with the atom's length"
+  pub atomsHold : List ℕ → Node → Bool
+  atomsHold text (atom p n) = isAtomPrefix (drop p text) n
+  atomsHold text (list c) = atomsHoldAll text c
+
+  pub atomsHoldAll : List ℕ → Nodes → Bool
+  atomsHoldAll text empty = true
+  atomsHoldAll text (n then c) = atomsHold text n && atomsHoldAll text c
+
+-- none of the calls, one after the other, is refused: the whole has room
+unfoldable mutual
+  pub fits : Style → ℕ → Serializer → List Call → Bool
+  fits s room w [] = true
+  fits s room w (c ∷ cs) = fitsFrom s room (step s room w c .serializer) (step s room w c .answer) cs
+
+  pub fitsFrom : Style → ℕ → Serializer → writer.Answer → List Call → Bool
+  fitsFrom s room w (writer.Answer.accepted o) cs = fits s room w cs
+  fitsFrom s room w (writer.Answer.refused n) cs = false
+
+-- what a tree call leaves: the writer's record, its answer, and the buffer
+pub record Writes : Type 0 where
+  pub serializer : Serializer
+  pub answer : Answer
+  pub buffer : List ℕ
+
+-- "on a refusal no byte is written and the record stays"
+abbrev pub refuse : ℕ → List ℕ → Serializer → Writes
+refuse n buffer w = record { serializer = w; answer = refusedWith n; buffer = buffer }
+
+-- "Each accepted item answers with its offset, a tree with its first item's"
+abbrev pub firstOffset : List writer.Answer → Answer
+firstOffset (writer.Answer.accepted o ∷ l) = answered o
+firstOffset (writer.Answer.refused n ∷ l) = refusedWith n
+firstOffset [] = refusedWith 22
+
+-- the calls' run, where all of them fit; 22 is judged over the whole
+unfoldable pub written : Style → List ℕ → Serializer → List Call → Writes
+written s buffer w cs =
+    let r = run s buffer w cs in
+    cond (fits s (length buffer) w cs)
+    (record { serializer = r .last; answer = firstOffset (r .answers); buffer = r .buffer })
+    (refuse 22 buffer w)
+
+-- 19: "writing already finished; ... any call after an accepted finish"
+abbrev pub isOver : Phase → Bool
+isOver Beginning = false
+isOver Writing = false
+isOver Finished = true
+isOver Done = true
+
+-- what follows 15: 17, 19, 21 ("a list would be the 201st open"), 22, "each over the whole node before the next"; the calls are made of the node
+unfoldable pub writeNode : Style → List ℕ → Serializer → List ℕ → (Node → List Call) → Option Node → Writes
+writeNode s buffer w text calls none = refuse 15 buffer w
+writeNode s buffer w text calls (some n) =
+    cond (atomsHold text n)
+    (cond (isOver (w .phase))
+    (refuse 19 buffer w)
+    (cond (ltb deepest (w .lists + depth n)) (refuse 21 buffer w) (written s buffer w (calls n))))
+    (refuse 17 buffer w)
+
+-- "`serialize_tree`: 13, 11, 15, 17, 19, 21, 22"
+unfoldable pub writeTree : Style → List ℕ → Serializer → List ℕ → List ℕ → (Node → List Call) → Writes
+writeTree s buffer w text words calls =
+    cond (ltb longest (length text))
+    (refuse 13 buffer w)
+    (cond (isSound w) (writeNode s buffer w text calls (decide (length text) words)) (refuse 11 buffer w))
+
+unfoldable pub serializeTree : Style → List ℕ → Serializer → List ℕ → List ℕ → ℕ → Writes
+serializeTree s buffer w text words t = writeTree s buffer w text words (nodeCalls text t)
+
+-- "house style, LF, two spaces, threshold 0, final break"
+unfoldable pub houseStyle : Style
+houseStyle = style (10 ∷ []) (32 ∷ 32 ∷ [])
+
+abbrev pub houseThreshold : ℕ
+houseThreshold = 0
+
+-- a whole text in house style: the tree, and finish with a line break, as one call
+unfoldable pub houseCalls : List ℕ → Node → List Call
+houseCalls text n = nodeCalls text houseThreshold n ++ finishCall true ∷ []
+
+unfoldable pub houseTree : List ℕ → List ℕ → List ℕ → Writes
+houseTree buffer text words = writeTree houseStyle buffer freshSerializer text words (houseCalls text)
+
+-- what a call promises, that ended with the result r and the buffer `now`: it does as d says
+pub record DoesWrite (d : Writes) (r : TreeWrote) (now : List ℕ) : Type 0 where
+  pub serializer : r .serializer ≡ d .serializer
+  pub answer : putAs (r .answer) ≡ d .answer
+  pub buffer : now ≡ d .buffer

@@ -1,0 +1,128 @@
+// Tables: whether one holds a tree, and the node at the end of a path.
+ghost use mathlib.Core.Path.{_≡_};
+ghost use Prim.Native.Nat.{_^_, _<_};
+ghost use Rattle.sise_tree.specs.Tree.{fillsIn};
+ghost use Rattle.sise_tree.specs.Parts.{goodIn};
+ghost use Rattle.sise_tree.specs.Decision.{decide, isSome};
+ghost use Rattle.sise_tree.specs.IndexPath.{indexPath};
+ghost use Rattle.sise_tree.specs.Answers.{indexedAs};
+
+// The longest text of a tree call.
+pub const LONGEST: usize = 16777216;
+
+// What index_path answers: the node's index, or a refusal.
+pub enum Indexed {
+    Node(usize),
+    TextTooLong,
+    NotATree,
+    NoSuchNode,
+}
+
+pub fn wide(x: u32) -> usize
+    ensures same { λ r. ⌜ r ≡ x ⌝ }
+    ensures small { λ r. ⌜ r < 2 ^ 32 ⌝ }
+{
+    x as usize
+}
+
+// Whether the spans of `children` nodes, from node `from` on, end exactly at node `end`, which is in the table or just past it.
+fn fills(table: &[u32], children: usize, from: usize, end: usize) -> bool
+    ensures { λ r. ⌜ r ≡ fillsIn (now (table .entry)) children from end ⌝ }
+{
+    if end > table.len() / 4 {
+        return false;
+    }
+    let mut left = children;
+    let mut at = from;
+    while left > 0 {
+        if at >= end {
+            return false;
+        }
+        let span = wide(table[4 * at + 3]);
+        if span == 0 {
+            return false;
+        }
+        at += span;
+        left -= 1;
+    }
+    at == end
+}
+
+// Whether node `i` is in the table and has one of the two forms.
+fn node_holds(text_len: usize, table: &[u32], i: usize) -> bool
+    ensures { λ r. ⌜ r ≡ goodIn «text_len» (now (table .entry)) i ⌝ }
+{
+    if i >= table.len() / 4 {
+        return false;
+    }
+    let kind = table[4 * i];
+    let first = wide(table[4 * i + 1]);
+    let second = wide(table[4 * i + 2]);
+    let span = wide(table[4 * i + 3]);
+    if kind == 1 {
+        if span != 1 {
+            return false;
+        }
+        return first + second <= text_len;
+    }
+    if kind != 0 || second != 0 {
+        return false;
+    }
+    fills(table, first, i + 1, i + span)
+}
+
+// Whether the table holds a tree over a text of `text_len` bytes. Each node is tested by itself, which is enough (proofs/LocalLaws.antt), and stepped
+// over once, by its list: the time is linear in the first node's span.
+pub fn holds_tree(text_len: usize, table: &[u32]) -> bool
+    ensures { λ r. ⌜ r ≡ isSome (decide «text_len» (now (table .entry))) ⌝ }
+{
+    let nodes = table.len() / 4;
+    if nodes == 0 {
+        return false;
+    }
+    let end = wide(table[3]);
+    if end == 0 || end > nodes {
+        return false;
+    }
+    let mut i = 0;
+    while i < end {
+        if !node_holds(text_len, table, i) {
+            return false;
+        }
+        i += 1;
+    }
+    true
+}
+
+// The node at the end of the path: its index in the table. An index of the path counts a list's children from 0.
+pub fn index_path(table: &[u32], text: &[u8], path: &[u64]) -> Indexed
+    ensures { λ r. ⌜ indexedAs r ≡ indexPath (now (table .entry)) (now (text .entry)) (now (path .entry)) ⌝ }
+{
+    if text.len() > LONGEST {
+        return Indexed::TextTooLong;
+    }
+    if !holds_tree(text.len(), table) {
+        return Indexed::NotATree;
+    }
+    let mut at = 0;
+    let mut k = 0;
+    while k < path.len() {
+        if table[4 * at] != 0 || path[k] >= table[4 * at + 1] as u64 {
+            return Indexed::NoSuchNode;
+        }
+        at = child(table, at, path[k]);
+        k += 1;
+    }
+    Indexed::Node(at)
+}
+
+// The child of the list `at` with this index, which it has.
+fn child(table: &[u32], at: usize, index: u64) -> usize {
+    let mut i = at + 1;
+    let mut left = index;
+    while left > 0 {
+        i += wide(table[4 * i + 3]);
+        left -= 1;
+    }
+    i
+}
