@@ -60,6 +60,10 @@ module _ (s : Style) where
   finish-done room w wished r (refuses n u) a = absurd (false≢true a)
   finish-done room w wished r (puts p (textEnded f) q) a = rw (last-done s w wished)
 
+  pub finished-done : (room : ℕ) (w : Serializer) (wished : Bool) → isAccepted (step s room w (finishCall wished) .answer) ≡ true
+      → step s room w (finishCall wished) .serializer .phase ≡ Done
+  finished-done room w wished a = is-done _ (finish-done room w wished _ (verdict s room w (finishCall wished)) a)
+
   -- the answers that a list of calls gets, and where they end
   ended : {cs : List Call} {l : List Answer} → FinishAccepted cs l → (buffer : List ℕ) (w : Serializer) → l ≡ run s buffer w cs .answers → isDone (run s buffer w cs .last .phase) ≡ true
   unfolding run

@@ -5,3 +5,5 @@ pub mod ParseTree
 pub mod IndexPath
 pub mod SerializeTree
 pub mod Parts
+pub mod Descent
+pub mod Alike

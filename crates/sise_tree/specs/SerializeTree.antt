@@ -26,20 +26,19 @@ abbrev pub largest : ℕ
 largest = 2 ^ 64 - 1
 
 unfoldable mutual
-  -- a tree's calls at the threshold t
-  pub nodeCalls : List ℕ → ℕ → Node → List Call
-  nodeCalls text t (atom p n) = putAtomCall (partOf text p n) t ∷ []
-  nodeCalls text t (list c) = beginListCall t ∷ (firstCalls text t c ++ endListCall ∷ [])
+  -- a node's calls: an atom at the threshold a, "all else" at "the given one", t
+  pub nodeCalls : List ℕ → ℕ → ℕ → Node → List Call
+  nodeCalls text a t (atom p n) = putAtomCall (partOf text p n) a ∷ []
+  nodeCalls text a t (list c) = beginListCall t ∷ (rowCalls text largest t c ++ endListCall ∷ [])
 
-  -- "gives a list's first child, if an atom, the largest threshold, all else the given one"
-  pub firstCalls : List ℕ → ℕ → Nodes → List Call
-  firstCalls text t empty = []
-  firstCalls text t (atom p n then c) = putAtomCall (partOf text p n) largest ∷ rowCalls text t c
-  firstCalls text t (list d then c) = nodeCalls text t (list d) ++ rowCalls text t c
+  -- nodes one after the other: "gives a list's first child, if an atom, the largest threshold", so the first has a threshold of its own
+  pub rowCalls : List ℕ → ℕ → ℕ → Nodes → List Call
+  rowCalls text a t empty = []
+  rowCalls text a t (n then c) = nodeCalls text a t n ++ rowCalls text t t c
 
-  pub rowCalls : List ℕ → ℕ → Nodes → List Call
-  rowCalls text t empty = []
-  rowCalls text t (n then c) = nodeCalls text t n ++ rowCalls text t c
+-- a tree's calls
+abbrev pub treeCalls : List ℕ → ℕ → Node → List Call
+treeCalls text t n = nodeCalls text t t n
 
 unfoldable mutual
   -- each atom is one: "the check of an atom is handed the rest of the text from its first byte, with the atom's length"
@@ -51,15 +50,14 @@ unfoldable mutual
   atomsHoldAll text empty = true
   atomsHoldAll text (n then c) = atomsHold text n && atomsHoldAll text c
 
--- none of the calls, one after the other, is refused: the whole has room
-unfoldable mutual
-  pub fits : Style → ℕ → Serializer → List Call → Bool
-  fits s room w [] = true
-  fits s room w (c ∷ cs) = fitsFrom s room (step s room w c .serializer) (step s room w c .answer) cs
+abbrev pub isAccepted : writer.Answer → Bool
+isAccepted (writer.Answer.accepted o) = true
+isAccepted (writer.Answer.refused n) = false
 
-  pub fitsFrom : Style → ℕ → Serializer → writer.Answer → List Call → Bool
-  fitsFrom s room w (writer.Answer.accepted o) cs = fits s room w cs
-  fitsFrom s room w (writer.Answer.refused n) cs = false
+-- none of the calls, one after the other, is refused: the whole has room
+unfoldable pub fits : Style → ℕ → Serializer → List Call → Bool
+fits s room w [] = true
+fits s room w (c ∷ cs) = isAccepted (step s room w c .answer) && fits s room (step s room w c .serializer) cs
 
 -- what a tree call leaves: the writer's record, its answer, and the buffer
 pub record Writes : Type 0 where
@@ -110,7 +108,7 @@ writeTree s buffer w text words calls =
     (cond (isSound w) (writeNode s buffer w text calls (decide (length text) words)) (refuse 11 buffer w))
 
 unfoldable pub serializeTree : Style → List ℕ → Serializer → List ℕ → List ℕ → ℕ → Writes
-serializeTree s buffer w text words t = writeTree s buffer w text words (nodeCalls text t)
+serializeTree s buffer w text words t = writeTree s buffer w text words (treeCalls text t)
 
 -- "house style, LF, two spaces, threshold 0, final break"
 unfoldable pub houseStyle : Style
@@ -121,7 +119,7 @@ houseThreshold = 0
 
 -- a whole text in house style: the tree, and finish with a line break, as one call
 unfoldable pub houseCalls : List ℕ → Node → List Call
-houseCalls text n = nodeCalls text houseThreshold n ++ finishCall true ∷ []
+houseCalls text n = treeCalls text houseThreshold n ++ finishCall true ∷ []
 
 unfoldable pub houseTree : List ℕ → List ℕ → List ℕ → Writes
 houseTree buffer text words = writeTree houseStyle buffer freshSerializer text words (houseCalls text)

@@ -1,0 +1,26 @@
+-- Trees with atoms by their bytes: two nodes over two texts are the same if these are equal.
+-- Assumes nothing.
+use Prim.Native.Nat.{ℕ}
+use mathlib.Core.List.{List}
+use Rattle.sise_parser.specs.Reader.{partOf}
+use Rattle.sise_tree.specs.Tree.{Node, atom, list, Nodes, empty, _then_}
+
+infixr 20 _also_
+mutual
+  pub data Tree : Type 0 where
+    leaf : List ℕ → Tree
+    branch : Trees → Tree
+
+  pub data Trees : Type 0 where
+    nothing : Trees
+    _also_ : Tree → Trees → Trees
+
+unfoldable mutual
+  -- a node over a text
+  pub treeOf : List ℕ → Node → Tree
+  treeOf text (atom p n) = leaf (partOf text p n)
+  treeOf text (list c) = branch (treesOf text c)
+
+  pub treesOf : List ℕ → Nodes → Trees
+  treesOf text empty = nothing
+  treesOf text (n then c) = treeOf text n also treesOf text c
