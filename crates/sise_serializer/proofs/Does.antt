@@ -2,7 +2,7 @@
 -- Assumes nothing.
 use Prim.Native.Nat.{ℕ, _+_, _-_, _*_, _≤_, _<_}
 use native.Mathlib.Nat.{add-zero}
-use mathlib.Core.Path.{_≡_, refl, sym, ap, _∙_}
+use mathlib.Core.Path.{_≡_, refl, sym, ap, subst, _∙_}
 use mathlib.Core.Bool.{Bool, true, false, cond}
 use mathlib.Core.List.{List, [], _∷_, append-nil}
 use lib.ListN.{length, getD}
@@ -60,10 +60,12 @@ module _ (p : Progress) (flags : List Bool) (commit : Bool) (before : List ℕ) 
         rw (not-found (length before) (p .position) (length (b .layout)) (length (b .token)) (sym t ∙ h .spot))
         (record { serializer = refl; answer = refl; buffer = same ∙ full-kept commit before ∙ unwritten commit before (p .position) })
 
--- a step that commits does what a call does, once its flags are packed
-pub step-does : {d : Written} {w : Serializer} {before now : List ℕ} {r : Step} {flags : List Bool} {x : Wrote} → Steps d w true before r flags now
-    → x .serializer ≡ joined (r .progress) flags → x .answer ≡ r .answer → Does d w before x now
-step-does h e a = record { serializer = e ∙ h .serializer; answer = ap answerAs a ∙ h .answer; buffer = h .buffer }
+-- a step that commits does what a call does, once its record and its flags are packed
+pub step-does : (d : Serializer → Written) {v w : Serializer} {before now : List ℕ} {r : Step} {flags : List Bool} {x : Wrote} → v ≡ w → Steps (d v) v true before r flags now
+    → x .serializer ≡ joined (r .progress) flags → x .answer ≡ r .answer → Does (d w) w before x now
+step-does d {before = before} {now = now} {x = x} same h e a =
+    subst (λ (w : Serializer). Does (d w) w before x now) same
+    (record { serializer = e ∙ h .serializer; answer = ap answerAs a ∙ h .answer; buffer = h .buffer })
 
 -- ---- an item in a list
 
@@ -115,9 +117,12 @@ once : (b : Bool) (l : List ℕ) → repeat (cond b 1 0) l ≡ cond b l []
 once true l = append-nil l
 once false l = refl
 
-pub counted : (b : Bool) (n : ℕ) → n + cond b 1 0 ≡ cond b (n + 1) n
-counted true n = refl
-counted false n = add-zero n
+counted-as : (b : Bool) (n : ℕ) → n + cond b 1 0 ≡ cond b (n + 1) n
+counted-as true n = refl
+counted-as false n = add-zero n
+
+pub counted : (b : Bool) (n : ℕ) {k : ℕ} → k ≡ cond b 1 0 → n + k ≡ cond b (n + 1) n
+counted b n e = ap (λ (k : ℕ). n + k) e ∙ counted-as b n
 
 pub last-placed : (b : Bool) (l : List ℕ) {n : ℕ} {before now : List ℕ} {at : ℕ} {commit : Bool} {r : Spot} → n ≡ cond b 1 0
     → Placed before at (repeat n l) [] commit r now → Placed before at (cond b l []) [] commit r now
@@ -137,6 +142,9 @@ module _ (s : Style) (room : ℕ) (w : Serializer) where
   pub put-sound : (a : List ℕ) (t : ℕ) → isSound w ≡ true → isAtom a ≡ true → putAtom s room w a t ≡ putIn (w .phase) s room w a t
   unfolding putAtom
   put-sound a t e f = rw (e, f)
+
+  pub put-in : (a : List ℕ) (t : ℕ) {p : Phase} → w .phase ≡ p → putIn (w .phase) s room w a t ≡ putIn p s room w a t
+  put-in a t h = ap (λ (q : Phase). putIn q s room w a t) h
 
   pub token-unsound : (a : List ℕ) (t : ℕ) → isSound w ≡ false → putToken s room w a t ≡ refuse 11 w
   unfolding putToken

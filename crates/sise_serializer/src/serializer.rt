@@ -139,7 +139,16 @@ impl Serializer {
     {
         let mut flags = self.line_broken;
         let progress = self.progress();
-        let step = put_atom_step(progress, &mut flags, line_break, indentation, buf, atom, break_line_at, true);
+        let step = put_atom_step(
+            progress,
+            &mut flags,
+            line_break,
+            indentation,
+            buf,
+            atom,
+            break_line_at,
+            true,
+        );
         pack(step, flags)
     }
 
@@ -155,7 +164,15 @@ impl Serializer {
     {
         let mut flags = self.line_broken;
         let progress = self.progress();
-        let step = begin_step(progress, &mut flags, line_break, indentation, buf, break_line_at, true);
+        let step = begin_step(
+            progress,
+            &mut flags,
+            line_break,
+            indentation,
+            buf,
+            break_line_at,
+            true,
+        );
         pack(step, flags)
     }
 
@@ -181,7 +198,15 @@ impl Serializer {
     {
         let mut flags = self.line_broken;
         let progress = self.progress();
-        let step = finish_step(progress, &mut flags, line_break, indentation, buf, insert_line_break, true);
+        let step = finish_step(
+            progress,
+            &mut flags,
+            line_break,
+            indentation,
+            buf,
+            insert_line_break,
+            true,
+        );
         pack(step, flags)
     }
 }

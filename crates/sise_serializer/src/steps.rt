@@ -234,7 +234,16 @@ fn on_new_line(
             let breaks = progress.breaks + 1;
             let indents = progress.indents + lists;
             Step {
-                progress: added(lists, flags, is_list, end, line, progress.spaces, breaks, indents),
+                progress: added(
+                    lists,
+                    flags,
+                    is_list,
+                    end,
+                    line,
+                    progress.spaces,
+                    breaks,
+                    indents,
+                ),
                 answer: Put::At(at),
             }
         }
@@ -265,7 +274,16 @@ fn in_line(
             let line = progress.line_len + lead.len() + token.len();
             let spaces = progress.spaces + lead.len();
             Step {
-                progress: added(lists, flags, is_list, end, line, spaces, progress.breaks, progress.indents),
+                progress: added(
+                    lists,
+                    flags,
+                    is_list,
+                    end,
+                    line,
+                    spaces,
+                    progress.breaks,
+                    progress.indents,
+                ),
                 answer: Put::At(at),
             }
         }
@@ -293,7 +311,16 @@ fn inner(
 {
     let line = progress.line_len as u64;
     if break_line_at <= line {
-        on_new_line(progress, flags, token, is_list, line_break, indentation, buf, commit)
+        on_new_line(
+            progress,
+            flags,
+            token,
+            is_list,
+            line_break,
+            indentation,
+            buf,
+            commit,
+        )
     } else if progress.list_beginning {
         in_line(progress, flags, token, is_list, b"", buf, commit)
     } else {
@@ -320,7 +347,17 @@ fn put_sound(
     let phase = progress.phase;
     match phase {
         Phase::Beginning => first_atom(progress, buf, atom, commit),
-        Phase::Writing => inner(progress, flags, atom, false, line_break, indentation, buf, break_line_at, commit),
+        Phase::Writing => inner(
+            progress,
+            flags,
+            atom,
+            false,
+            line_break,
+            indentation,
+            buf,
+            break_line_at,
+            commit,
+        ),
         Phase::Finished => Step {
             progress,
             answer: Put::WritingFinished,
@@ -351,7 +388,16 @@ pub fn put_step(
             answer: Put::UnsoundRecord,
         };
     }
-    put_sound(progress, flags, line_break, indentation, buf, atom, break_line_at, commit)
+    put_sound(
+        progress,
+        flags,
+        line_break,
+        indentation,
+        buf,
+        atom,
+        break_line_at,
+        commit,
+    )
 }
 
 // Checks an atom and puts it.
@@ -379,7 +425,16 @@ pub fn put_atom_step(
             answer: Put::InvalidAtom,
         };
     }
-    put_sound(progress, flags, line_break, indentation, buf, atom, break_line_at, commit)
+    put_sound(
+        progress,
+        flags,
+        line_break,
+        indentation,
+        buf,
+        atom,
+        break_line_at,
+        commit,
+    )
 }
 
 // Begins a list. Inside another it goes on a new line if the line is at least `break_line_at` bytes long.
@@ -410,7 +465,17 @@ pub fn begin_step(
                     answer: Put::TooDeep,
                 };
             }
-            inner(progress, flags, b"(", true, line_break, indentation, buf, break_line_at, commit)
+            inner(
+                progress,
+                flags,
+                b"(",
+                true,
+                line_break,
+                indentation,
+                buf,
+                break_line_at,
+                commit,
+            )
         }
         Phase::Finished => Step {
             progress,
@@ -511,7 +576,15 @@ fn close(
             Spot::At(at, end) => {
                 let line = progress.line_len + 1;
                 Step {
-                    progress: closed(progress, flags, false, end, line, progress.breaks, progress.indents),
+                    progress: closed(
+                        progress,
+                        flags,
+                        false,
+                        end,
+                        line,
+                        progress.breaks,
+                        progress.indents,
+                    ),
                     answer: Put::At(at),
                 }
             }

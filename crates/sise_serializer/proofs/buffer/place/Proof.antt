@@ -1,41 +1,40 @@
+-- A found spot leaves room for all three, so `write` may be called; without a spot, or without `commit`, the buffer is not touched.
+-- Assumes nothing.
+use mathlib.Core.Path.{sym, _∙_}
 use borrow.Author.Needs.{needs}
+use Rattle.sise_serializer.proofs.Bytes.{layout-length}
+use Rattle.sise_serializer.proofs.Spots.{found}
 use Rattle.sise_serializer.proofs.buffer.place.Statement.{statement}
 use Rattle.sise_serializer.proofs.buffer.place.Tie as tie
-use Rattle.sise_serializer.proofs.buffer.place.Reads as reads
-use Rattle.sise_serializer.proofs.buffer.place.Lts as lts
-use Rattle.sise_serializer.proofs.buffer.find_spot.Reads as find-spot-reads
-use Rattle.sise_serializer.proofs.buffer.write.Reads as write-reads
 
--- src/buffer.rt:116:9
 find-spot-requires : tie.Need-find-spot-requires
 find-spot-requires c κs = search needs
 
--- src/buffer.rt:126:19
 enum-told : tie.Need-enum-told
 enum-told c = search needs
 
--- src/buffer.rt:126:13
 write-requires : tie.Need-write-requires
-write-requires c κs = ?
+write-requires c κs = found _ _ _ _ (sym (c .before .enum-told .given .1) ∙ c .before .before .before .before .find-spot .ensures) .in-room
 
 enum-told-2 : tie.Need-enum-told-2
 enum-told-2 c = search needs
 
--- src/buffer.rt:105:1
 same-length : tie.Need-same-length
 same-length c = search needs
 
--- src/buffer.rt:105:1
 returns : tie.Need-returns
-returns c = ?
+returns c =
+    let told = c .before .before .before .before in
+    let test = told .before .before in
+    record { spot = rw layout-length (test .before .find-spot .ensures); buffer = rw (test .if1 .taken, told .enum-told .given .1) (c .before .before .write .ensures) }
 
--- src/buffer.rt:105:1
 returns-2 : tie.Need-returns-2
-returns-2 c = ?
+returns-2 c =
+    let test = c .before .before in
+    record { spot = rw layout-length (test .before .find-spot .ensures); buffer = rw (test .if1 .taken, c .enum-told2 .given .1) }
 
--- src/buffer.rt:105:1
 returns-3 : tie.Need-returns-3
-returns-3 c = ?
+returns-3 c = record { spot = rw layout-length (c .before .find-spot .ensures); buffer = rw (c .if1 .left) }
 
 pub place-spec : {M : Type 1} → statement M
 place-spec =

@@ -1,117 +1,130 @@
+-- The flag of the innermost list picks the case of the definition; there the close stands in the buffer or has no room.
+-- Assumes nothing.
+use Prim.Native.Nat.{_-_, _*_, _≤_}
+use native.Mathlib.Omega.{arith}
+use lib.ListN.{length}
+use borrow.Author.Needs.{needs}
+use Rattle.sise_serializer.specs.Serializer.{Style, limit, style, closeAs}
+use Rattle.sise_serializer.proofs.Spots.{indents-small}
+use Rattle.sise_serializer.proofs.Does.{closed-steps, close-full-steps}
 use Rattle.sise_serializer.proofs.steps.close.Statement.{statement}
 use Rattle.sise_serializer.proofs.steps.close.Tie as tie
-use Rattle.sise_serializer.proofs.steps.close.Reads as reads
-use Rattle.sise_serializer.proofs.steps.close.Lts as lts
-use Rattle.sise_serializer.proofs.buffer.place.Reads as place-reads
-use Rattle.sise_serializer.proofs.steps.closed.Reads as closed-reads
 
--- src/steps.rt:492:13
+-- the function's entry, and its style
+abbrev start : tie.After-if12 → tie.Start
+start c = c .before .before .before .before .before
+
+abbrev styled : tie.After-if12 → Style
+styled c = style (start c .args .line-break .now) (start c .args .indentation .now)
+
 sub-d : tie.Need-sub-d
-sub-d c = ?
+sub-d c = search needs
 
--- src/steps.rt:493:8
 element-copy-out-if1 : tie.Need-element-copy-out-if1
-element-copy-out-if1 c = ?
+element-copy-out-if1 c = search needs
 
--- src/steps.rt:494:64
 slice-aggregate-place : tie.Need-slice-aggregate-place
-slice-aggregate-place c = ?
+slice-aggregate-place c = search needs
 
--- src/steps.rt:494:15
 place-requires : tie.Need-place-requires
-place-requires c κs = ?
+place-requires c κs = search needs
 
--- src/steps.rt:495:22
 enum-known-at : tie.Need-enum-known-at
-enum-known-at c = ?
+enum-known-at c = search needs
 
--- src/steps.rt:496:28
+-- what found room is few bytes
+few : (c : tie.After-at) → (start (c .before .before .before .before .before .before .before .before) .args .progress .lists - 1) * length (start (c .before .before .before .before .before .before .before .before) .args .indentation .now) ≤ limit
+few c =
+    let a = start (c .before .before .before .before .before .before .before .before) .args in
+    indents-small (a .line-break .now) (a .progress .lists - 1) (a .indentation .now) (c .before .before .before .before .place .ensures) (c .at .given .1)
+
 mul-line : tie.Need-mul-line
-mul-line c = ?
+mul-line c = omega (arith, few (c .before))
 
--- src/steps.rt:496:28
 add-line : tie.Need-add-line
-add-line c = ?
+add-line c = omega (arith, few (c .before))
 
--- src/steps.rt:497:30
 add-breaks : tie.Need-add-breaks
-add-breaks c = ?
+add-breaks c = search needs
 
--- src/steps.rt:498:31
 add-indents : tie.Need-add-indents
-add-indents c = ?
+add-indents c = search needs
 
--- src/steps.rt:500:31
 closed-requires : tie.Need-closed-requires
-closed-requires c κs = ?
+closed-requires c κs = search needs
 
--- src/steps.rt:506:25
 enum-told : tie.Need-enum-told
-enum-told c = ?
+enum-told c = search needs
 
--- src/steps.rt:510:36
 slice-aggregate-place-2 : tie.Need-slice-aggregate-place-2
-slice-aggregate-place-2 c = ?
+slice-aggregate-place-2 c = search needs
 
--- src/steps.rt:510:44
 slice-aggregate-place-3 : tie.Need-slice-aggregate-place-3
-slice-aggregate-place-3 c = ?
+slice-aggregate-place-3 c = search needs
 
--- src/steps.rt:510:49
 slice-aggregate-place-4 : tie.Need-slice-aggregate-place-4
-slice-aggregate-place-4 c = ?
+slice-aggregate-place-4 c = search needs
 
--- src/steps.rt:510:15
 place-requires-2 : tie.Need-place-requires-2
-place-requires-2 c κs = ?
+place-requires-2 c κs = search needs
 
--- src/steps.rt:511:22
 enum-known-at-2 : tie.Need-enum-known-at-2
-enum-known-at-2 c = ?
+enum-known-at-2 c = search needs
 
--- src/steps.rt:512:28
 add-line-2 : tie.Need-add-line-2
-add-line-2 c = ?
+add-line-2 c = search needs
 
--- src/steps.rt:514:31
 closed-requires-2 : tie.Need-closed-requires-2
-closed-requires-2 c κs = ?
+closed-requires-2 c κs = search needs
 
--- src/steps.rt:520:25
 enum-told-2 : tie.Need-enum-told-2
-enum-told-2 c = ?
+enum-told-2 c = search needs
 
--- src/steps.rt:480:1
 same-length : tie.Need-same-length
-same-length c = ?
+same-length c = search needs
 
--- src/steps.rt:480:1
 returns : tie.Need-returns
-returns c = ?
+unfolding closeAs
+returns c =
+    let at = c .before .before .before .before .before in
+    let pl = at .before .before .before .before in
+    let arm = pl .before .before .before in
+    let a = start (arm .before) .args in
+    closed-steps (styled (arm .before)) (a .progress) (a .flags .now) (a .commit) (arm .if1 .taken) (pl .place .ensures) (at .at .given .1) (c .closed .ensures)
 
--- src/steps.rt:480:1
 same-length-2 : tie.Need-same-length-2
-same-length-2 c = ?
+same-length-2 c = search needs
 
--- src/steps.rt:480:1
 returns-2 : tie.Need-returns-2
-returns-2 c = ?
+unfolding closeAs
+returns-2 c =
+    let pl = c .before .before .before .before in
+    let arm = pl .before .before .before in
+    let a = start (arm .before) .args in
+    close-full-steps (styled (arm .before)) (a .progress) (a .flags .now) (a .commit) (arm .if1 .taken) (pl .place .ensures) (c .enum-told .given .1)
 
--- src/steps.rt:480:1
 same-length-3 : tie.Need-same-length-3
-same-length-3 c = ?
+same-length-3 c = search needs
 
--- src/steps.rt:480:1
 returns-3 : tie.Need-returns-3
-returns-3 c = ?
+unfolding closeAs
+returns-3 c =
+    let at = c .before .before .before .before in
+    let pl = at .before .before .before .before in
+    let arm = pl .before .before .before .before .before in
+    let a = start (arm .before) .args in
+    closed-steps (styled (arm .before)) (a .progress) (a .flags .now) (a .commit) (arm .if1 .left) (pl .place2 .ensures) (at .at2 .given .1) (c .closed2 .ensures)
 
--- src/steps.rt:480:1
 same-length-4 : tie.Need-same-length-4
-same-length-4 c = ?
+same-length-4 c = search needs
 
--- src/steps.rt:480:1
 returns-4 : tie.Need-returns-4
-returns-4 c = ?
+unfolding closeAs
+returns-4 c =
+    let pl = c .before .before .before .before in
+    let arm = pl .before .before .before .before .before in
+    let a = start (arm .before) .args in
+    close-full-steps (styled (arm .before)) (a .progress) (a .flags .now) (a .commit) (arm .if1 .left) (pl .place2 .ensures) (c .enum-told2 .given .1)
 
 pub close-spec : {M : Type 1} → statement M
 close-spec =

@@ -55,7 +55,7 @@ returns c =
     let a = start one .args in
     let wished = a .insert-line-break in
     placed-steps (a .progress) flags (a .commit) (a .buf .now) (piece (start one) flags) (last-placed wished (a .line-break .now) (one .one-if .ensures) (pl .place .ensures)) (at .at .given .1)
-    (λ x. rw (x, one .one-if .ensures, counted wished (a .progress .breaks), add-zero))
+    (λ x. rw (x, counted wished (a .progress .breaks) (one .one-if .ensures), add-zero))
 
 same-length-2 : tie.Need-same-length-2
 same-length-2 c = search needs

@@ -1,31 +1,31 @@
+-- The step does it; the flags that it leaves are packed with what it hands back.
+-- Assumes nothing.
+use lib.ListN.{length}
 use borrow.Author.Needs.{needs}
+use Rattle.sise_serializer.specs.Serializer.{style, endList}
+use Rattle.sise_serializer.specs.declared.serializer.Serializer.{Serializer}
+use Rattle.sise_serializer.proofs.Does.{step-does}
 use Rattle.sise_serializer.proofs.serializer.Serializer.end_list.Statement.{statement}
 use Rattle.sise_serializer.proofs.serializer.Serializer.end_list.Tie as tie
-use Rattle.sise_serializer.proofs.serializer.Serializer.end_list.Reads as reads
-use Rattle.sise_serializer.proofs.serializer.Serializer.end_list.Lts as lts
-use Rattle.sise_serializer.proofs.serializer.Serializer.progress.Reads as progress-reads
-use Rattle.sise_serializer.proofs.serializer.pack.Reads as pack-reads
-use Rattle.sise_serializer.proofs.steps.end_step.Reads as end-step-reads
 
--- src/serializer.rt:167:13
 progress-requires : tie.Need-progress-requires
 progress-requires c κs = search needs
 
--- src/serializer.rt:168:13
 end-step-requires : tie.Need-end-step-requires
 end-step-requires c κs = search needs
 
--- src/serializer.rt:169:9
 pack-requires : tie.Need-pack-requires
 pack-requires c κs = search needs
 
--- src/serializer.rt:163:5
 same-length : tie.Need-same-length
 same-length c = search needs
 
--- src/serializer.rt:163:5
 returns : tie.Need-returns
-returns c = ?
+returns c =
+    let st = c .before .before .before in
+    let pr = st .before .before .before in
+    let a = pr .before .before .before .before .before .args in
+    step-does (λ (w : Serializer). endList (style (a .line-break .now) (a .indentation .now)) (length (a .buf .now)) w) (pr .progress .ensures) (st .end-step .ensures) (c .pack .ensures .0) (c .pack .ensures .1)
 
 pub end-list-spec : {M : Type 1} → statement M
 end-list-spec =

@@ -1,31 +1,31 @@
+-- The step does it; the flags that it leaves are packed with what it hands back.
+-- Assumes nothing.
+use lib.ListN.{length}
 use borrow.Author.Needs.{needs}
+use Rattle.sise_serializer.specs.Serializer.{style, finishWriting}
+use Rattle.sise_serializer.specs.declared.serializer.Serializer.{Serializer}
+use Rattle.sise_serializer.proofs.Does.{step-does}
 use Rattle.sise_serializer.proofs.serializer.Serializer.finish.Statement.{statement}
 use Rattle.sise_serializer.proofs.serializer.Serializer.finish.Tie as tie
-use Rattle.sise_serializer.proofs.serializer.Serializer.finish.Reads as reads
-use Rattle.sise_serializer.proofs.serializer.Serializer.finish.Lts as lts
-use Rattle.sise_serializer.proofs.serializer.Serializer.progress.Reads as progress-reads
-use Rattle.sise_serializer.proofs.serializer.pack.Reads as pack-reads
-use Rattle.sise_serializer.proofs.steps.finish_step.Reads as finish-step-reads
 
--- src/serializer.rt:183:13
 progress-requires : tie.Need-progress-requires
 progress-requires c κs = search needs
 
--- src/serializer.rt:184:13
 finish-step-requires : tie.Need-finish-step-requires
 finish-step-requires c κs = search needs
 
--- src/serializer.rt:185:9
 pack-requires : tie.Need-pack-requires
 pack-requires c κs = search needs
 
--- src/serializer.rt:173:5
 same-length : tie.Need-same-length
 same-length c = search needs
 
--- src/serializer.rt:173:5
 returns : tie.Need-returns
-returns c = ?
+returns c =
+    let st = c .before .before .before in
+    let pr = st .before .before .before in
+    let a = pr .before .before .before .before .before .args in
+    step-does (λ (w : Serializer). finishWriting (style (a .line-break .now) (a .indentation .now)) (length (a .buf .now)) w (a .insert-line-break)) (pr .progress .ensures) (st .finish-step .ensures) (c .pack .ensures .0) (c .pack .ensures .1)
 
 pub finish-spec : {M : Type 1} → statement M
 finish-spec =
