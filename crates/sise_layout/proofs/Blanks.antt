@@ -3,19 +3,15 @@
 use Prim.Native.Nat.{ℕ, zero, suc, _+_, _*_, _<_}
 use native.Mathlib.Omega.{arith}
 use mathlib.Core.Path.{_≡_, refl}
-use mathlib.Core.Bool.{Bool, true, false, _&&_}
+use mathlib.Core.Bool.{true}
 use mathlib.Core.List.{List, [], _∷_, _++_}
 use lib.ListN.{length}
 use Rattle.sise_serializer.specs.Bytes.{repeat}
 use Rattle.sise_serializer.specs.Serializer.{Style, newLineOf}
 use Rattle.sise_serializer.proofs.Bytes.{layout-length}
-use Rattle.sise_parser.proofs.Calls.{and-first, and-second}
+use Rattle.sise_util.proofs.Ranges.{and-first, and-second, both}
 use Rattle.sise_layout.specs.Calls.{isBlank, allBlank, Blank}
 use Rattle.sise_layout.proofs.Lexing.{stops, blank-stops}
-
-pub both : (a b : Bool) → a ≡ true → b ≡ true → a && b ≡ true
-both true b h k = k
-both false b h k = h
 
 pub append-blank : (a b : List ℕ) → allBlank a ≡ true → allBlank b ≡ true → allBlank (a ++ b) ≡ true
 append-blank [] b h k = k

@@ -17,7 +17,7 @@ use Rattle.sise_parser.specs.declared.reader.Phase.the-variants.{Beginning, Par
 use Rattle.sise_layout.specs.Calls.{Item, atom, listStart, listEnd, placed, allBlank}
 use Rattle.sise_layout.specs.Reading.{Stands}
 use Rattle.sise_layout.proofs.Lexing.{token, skip-blanks}
-use Rattle.sise_layout.proofs.Blanks.{both}
+use Rattle.sise_util.proofs.Ranges.{both}
 
 -- what a token gives before the end, by the phase
 abbrev pub taken : Phase → ℕ → Lexed → Next

@@ -7,13 +7,12 @@ use mathlib.Core.Bool.{Bool, true, false, not, false≢true}
 use mathlib.Core.List.{List, [], _∷_}
 use lib.Dec.{leb, eqb}
 use borrow.Author.Tests.{le-leb}
-use Rattle.sise_util.proofs.Ranges.{split}
+use Rattle.sise_util.proofs.Ranges.{split, both}
 use Rattle.sise_serializer.specs.Serializer.{Style, Written, Answer, accepted, refused, limit, deepest, isSound, freshSerializer, last}
 use Rattle.sise_serializer.specs.declared.serializer.Phase.the-variants.{Finished}
 use Rattle.sise_serializer.specs.declared.serializer.Serializer.{Serializer}
 use Rattle.sise_layout.specs.Calls.{Call, step, Styled, answersOf, isNot11}
 use Rattle.sise_layout.specs.Reading.{All, none, more}
-use Rattle.sise_layout.proofs.Blanks.{both}
 use Rattle.sise_layout.proofs.Pieces.{Aligned, Bounded}
 use Rattle.sise_layout.proofs.Outcomes.{Outcome, same, adds, ends, outcome}
 use Rattle.sise_layout.proofs.Verdicts.{endOf}

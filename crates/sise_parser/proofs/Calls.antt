@@ -1,7 +1,7 @@
 -- The two calls of the definition, where it is known whether the record is sound, which phase it has and what the token is.
 -- Assumes nothing.
 use mathlib.Core.Path.{_≡_, refl, sym, ap, _∙_}
-use mathlib.Core.Bool.{Bool, true, false, _&&_, false≢true}
+use mathlib.Core.Bool.{true, false, _&&_}
 use mathlib.Core.List.{List, [], _∷_}
 use Prim.Native.Nat.{ℕ, _≤_}
 use native.Mathlib.Omega.{arith}
@@ -11,7 +11,7 @@ use borrow.Author.Tests.{leb-true}
 use types.Run.{OneOf}
 use denote.Enum.Declared.{tagOf}
 use mathlib.Core.Logic.{⊎-elim}
-use Rattle.sise_util.proofs.Ranges.{split}
+use Rattle.sise_util.proofs.Ranges.{split, and-first, and-second}
 use Rattle.sise_parser.specs.Refusals.{Refusal, refusal}
 use Rattle.sise_parser.specs.Lexer.{Lexed, found, bad, Token, eof}
 use Rattle.sise_parser.specs.Reader.{reader, listsFit, isSound, refused, Next, next, refusedWith, tokenAt, inBeginning, inParsing, nextIn, nextItem, Ending, ended, notEnded, endsAt, finishIn, finishReading}
@@ -25,14 +25,6 @@ pub record Sound (n : ℕ) (r : Reader) : Type 0 where
   pub within : r .position ≤ n
   pub opened : r .lists ≤ r .position
   pub fit : listsFit (r .phase) (r .lists) ≡ true
-
-pub and-first : (a b : Bool) → a && b ≡ true → a ≡ true
-and-first true b h = refl
-and-first false b h = h
-
-pub and-second : (a b : Bool) → a && b ≡ true → b ≡ true
-and-second true b h = h
-and-second false b h = absurd (false≢true h)
 
 pub sound-parts : (n : ℕ) (r : Reader) → isSound n r ≡ true → Sound n r
 unfolding isSound

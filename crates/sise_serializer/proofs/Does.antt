@@ -1,18 +1,22 @@
--- From what the code knows at a return to the promise of its contract, `Does`: for refusals, for pieces with and without room, and for each call.
+-- From what the code knows at a return to the promise of its contract, `Steps`: for refusals, for pieces with and without room, and for each call.
 -- Assumes nothing.
 use Prim.Native.Nat.{ℕ, _+_, _-_, _*_, _≤_, _<_}
 use native.Mathlib.Nat.{add-zero}
-use mathlib.Core.Path.{_≡_, refl, sym, ap, _∙_}
+use mathlib.Core.Path.{_≡_, refl, sym, ap, subst, _∙_}
 use mathlib.Core.Bool.{Bool, true, false, cond}
 use mathlib.Core.List.{List, [], _∷_, append-nil}
 use lib.ListN.{length, getD}
 use borrow.Author.Tests.{lt-ltb, le-ltb}
 use Rattle.sise_util.specs.Atom.{isAtom}
-use Rattle.sise_serializer.specs.Bytes.{repeat}
-use Rattle.sise_serializer.specs.Serializer.{Answer, refused, answerAs, Does, isSound, Style, Piece, refuse, place, Gap, newLine, nothing, space, gapAt, laid, inner, innerAs, close, closeAs, last, putIn, putAtom, beginIn, beginList, endIn, endList, finishIn, finishWriting}
+use Rattle.sise_serializer.specs.Bytes.{pasted, repeat}
+use Rattle.sise_serializer.specs.Serializer.{Answer, refused, answerAs, Written, Does, isSound, Style, Piece, refuse, place, Gap, newLine, nothing, space, gapAt, laid, inner, innerAs, close, closeAs, last, putIn, putAtom, beginIn, beginList, endIn, endList, finishIn, finishWriting}
+use Rattle.sise_serializer.specs.Steps.{joined, Steps, putToken}
 use Rattle.sise_serializer.specs.Parts.{Placed, closedWith, inLine}
 use Rattle.sise_serializer.specs.declared.serializer.Phase.{Phase}
 use Rattle.sise_serializer.specs.declared.serializer.Serializer.{Serializer}
+use Rattle.sise_serializer.specs.declared.serializer.Wrote.{Wrote}
+use Rattle.sise_serializer.specs.declared.steps.Progress.{Progress}
+use Rattle.sise_serializer.specs.declared.steps.Step.{Step}
 use Rattle.sise_serializer.specs.declared.buffer.Spot.{Spot}
 use Rattle.sise_serializer.specs.declared.buffer.Spot.the-variants as spot
 use Rattle.sise_serializer.specs.declared.serializer.Put.{Put}
@@ -22,27 +26,46 @@ use Rattle.sise_serializer.proofs.Spots.{found, not-found}
 
 -- ---- refusals and pieces
 
--- a refusal changes nothing
-pub refused-does : (w : Serializer) (before : List ℕ) (n : ℕ) (a : Put) → answerAs a ≡ refused n
-    → Does (refuse n w) w before (record { serializer = w; answer = a }) before
-refused-does w before n a e = record { serializer = refl; answer = e; buffer = sym (pasted-none before (w .position)) }
+-- where nothing is to be written it does not matter whether the step commits
+unwritten : (commit : Bool) (before : List ℕ) (at : ℕ) → before ≡ cond commit (pasted before at []) before
+unwritten true before at = sym (pasted-none before at)
+unwritten false before at = refl
 
-module _ (w : Serializer) (p : Piece) {before : List ℕ} {r : Spot} {now : List ℕ} (h : Placed before (w .position) (p .layout) (p .token) r now) where
-  -- a piece with room
-  pub placed-does : {o e : ℕ} {v : Serializer} → r ≡ spot.At o e → (e ≡ w .position + length (p .layout) + length (p .token) → v ≡ p .after)
-      → Does (place (length before) w p) w before (record { serializer = v; answer = put.At o }) now
-  unfolding place
-  placed-does t q =
-      let f = found (length before) (w .position) (length (p .layout)) (length (p .token)) (sym t ∙ h .spot) in
-      rw (f .test)
-      (record { serializer = q (f .end); answer = ap Answer.accepted (f .offset); buffer = rw t at (h .buffer) })
+full-kept : (commit : Bool) (before : List ℕ) → cond commit before before ≡ before
+full-kept true before = refl
+full-kept false before = refl
 
-  -- a piece without room
-  pub full-does : r ≡ spot.NoRoom → Does (place (length before) w p) w before (record { serializer = w; answer = put.NoRoom }) now
-  unfolding place
-  full-does t =
-      rw (not-found (length before) (w .position) (length (p .layout)) (length (p .token)) (sym t ∙ h .spot))
-      (record { serializer = refl; answer = refl; buffer = (rw t at (h .buffer)) ∙ sym (pasted-none before (w .position)) })
+module _ (p : Progress) (flags : List Bool) (commit : Bool) (before : List ℕ) where
+  -- a refusal changes nothing
+  pub refused-steps : (n : ℕ) (a : Put) → answerAs a ≡ refused n
+      → Steps (refuse n (joined p flags)) (joined p flags) commit before (record { progress = p; answer = a }) flags before
+  refused-steps n a e = record { serializer = refl; answer = e; buffer = unwritten commit before (p .position) }
+
+  module _ (b : Piece) {r : Spot} {now : List ℕ} (h : Placed before (p .position) (b .layout) (b .token) commit r now) where
+    -- a piece with room
+    pub placed-steps : {o e : ℕ} {v : Progress} {after : List Bool} → r ≡ spot.At o e
+        → (e ≡ p .position + length (b .layout) + length (b .token) → joined v after ≡ b .after)
+        → Steps (place (length before) (joined p flags) b) (joined p flags) commit before (record { progress = v; answer = put.At o }) after now
+    unfolding place
+    placed-steps t q =
+        let f = found (length before) (p .position) (length (b .layout)) (length (b .token)) (sym t ∙ h .spot) in
+        rw (f .test)
+        (record { serializer = q (f .end); answer = ap Answer.accepted (f .offset); buffer = rw t at (h .buffer) })
+
+    -- a piece without room
+    pub full-steps : r ≡ spot.NoRoom → Steps (place (length before) (joined p flags) b) (joined p flags) commit before (record { progress = p; answer = put.NoRoom }) flags now
+    unfolding place
+    full-steps t =
+        let same : now ≡ cond commit before before = rw t at (h .buffer) in
+        rw (not-found (length before) (p .position) (length (b .layout)) (length (b .token)) (sym t ∙ h .spot))
+        (record { serializer = refl; answer = refl; buffer = same ∙ full-kept commit before ∙ unwritten commit before (p .position) })
+
+-- a step that commits does what a call does, once its record and its flags are packed
+pub step-does : (d : Serializer → Written) {v w : Serializer} {before now : List ℕ} {r : Step} {flags : List Bool} {x : Wrote} → v ≡ w → Steps (d v) v true before r flags now
+    → x .serializer ≡ joined (r .progress) flags → x .answer ≡ r .answer → Does (d w) w before x now
+step-does d {before = before} {now = now} {x = x} same h e a =
+    subst (λ (w : Serializer). Does (d w) w before x now) same
+    (record { serializer = e ∙ h .serializer; answer = ap answerAs a ∙ h .answer; buffer = h .buffer })
 
 -- ---- an item in a list
 
@@ -73,20 +96,20 @@ module _ (s : Style) (w : Serializer) (token : List ℕ) (isList : Bool) (t : �
 
 -- ---- the close of a list, by its flag
 
-module _ (s : Style) (w : Serializer) {b : Bool} (flag : getD (w .«line_broken») (w .lists - 1) false ≡ b)
-    {before : List ℕ} {r : Spot} {now : List ℕ} (h : Placed before (w .position) ((closeAs s w b) .layout) ((closeAs s w b) .token) r now) where
-  close-is : close s w ≡ closeAs s w b
+module _ (s : Style) (p : Progress) (flags : List Bool) (commit : Bool) {b : Bool} (flag : getD flags (p .lists - 1) false ≡ b)
+    {before : List ℕ} {r : Spot} {now : List ℕ} (h : Placed before (p .position) ((closeAs s (joined p flags) b) .layout) ((closeAs s (joined p flags) b) .token) commit r now) where
+  close-is : close s (joined p flags) ≡ closeAs s (joined p flags) b
   unfolding close
-  close-is = ap (closeAs s w) flag
+  close-is = ap (closeAs s (joined p flags)) flag
 
-  pub closed-does : {o e : ℕ} {v : Serializer} → r ≡ spot.At o e
-      → v ≡ closedWith w b e (cond b ((w .lists - 1) * length (s .indentation)) (w .«line_len») + 1) (cond b (w .breaks + 1) (w .breaks)) (cond b (w .indents + (w .lists - 1)) (w .indents))
-      → Does (place (length before) w (close s w)) w before (record { serializer = v; answer = put.At o }) now
+  pub closed-steps : {o e : ℕ} {v : Progress} {after : List Bool} → r ≡ spot.At o e
+      → joined v after ≡ closedWith (joined p flags) b e (cond b ((p .lists - 1) * length (s .indentation)) (p .«line_len») + 1) (cond b (p .breaks + 1) (p .breaks)) (cond b (p .indents + (p .lists - 1)) (p .indents))
+      → Steps (place (length before) (joined p flags) (close s (joined p flags))) (joined p flags) commit before (record { progress = v; answer = put.At o }) after now
   unfolding closeAs
-  closed-does k q = rw close-is (placed-does w (closeAs s w b) h k (λ x. rw x at q))
+  closed-steps k q = rw close-is (placed-steps p flags commit before (closeAs s (joined p flags) b) h k (λ x. rw x at q))
 
-  pub close-full-does : r ≡ spot.NoRoom → Does (place (length before) w (close s w)) w before (record { serializer = w; answer = put.NoRoom }) now
-  close-full-does k = rw close-is (full-does w (closeAs s w b) h k)
+  pub close-full-steps : r ≡ spot.NoRoom → Steps (place (length before) (joined p flags) (close s (joined p flags))) (joined p flags) commit before (record { progress = p; answer = put.NoRoom }) flags now
+  close-full-steps k = rw close-is (full-steps p flags commit before (closeAs s (joined p flags) b) h k)
 
 -- ---- the end of the text: a wished line break is one of one, another one of none
 
@@ -94,12 +117,15 @@ once : (b : Bool) (l : List ℕ) → repeat (cond b 1 0) l ≡ cond b l []
 once true l = append-nil l
 once false l = refl
 
-pub counted : (b : Bool) (n : ℕ) → n + cond b 1 0 ≡ cond b (n + 1) n
-counted true n = refl
-counted false n = add-zero n
+counted-as : (b : Bool) (n : ℕ) → n + cond b 1 0 ≡ cond b (n + 1) n
+counted-as true n = refl
+counted-as false n = add-zero n
 
-pub last-placed : (b : Bool) (l : List ℕ) {n : ℕ} {before now : List ℕ} {at : ℕ} {r : Spot} → n ≡ cond b 1 0
-    → Placed before at (repeat n l) [] r now → Placed before at (cond b l []) [] r now
+pub counted : (b : Bool) (n : ℕ) {k : ℕ} → k ≡ cond b 1 0 → n + k ≡ cond b (n + 1) n
+counted b n e = ap (λ (k : ℕ). n + k) e ∙ counted-as b n
+
+pub last-placed : (b : Bool) (l : List ℕ) {n : ℕ} {before now : List ℕ} {at : ℕ} {commit : Bool} {r : Spot} → n ≡ cond b 1 0
+    → Placed before at (repeat n l) [] commit r now → Placed before at (cond b l []) [] commit r now
 last-placed b l e h = rw (← once b l, ← e) h
 
 -- ---- the calls, by their tests and the phase
@@ -113,9 +139,25 @@ module _ (s : Style) (room : ℕ) (w : Serializer) where
   unfolding putAtom
   put-no-atom a t e f = rw (e, f)
 
-  pub put-sound : (a : List ℕ) (t : ℕ) {p : Phase} → isSound w ≡ true → isAtom a ≡ true → w .phase ≡ p → putAtom s room w a t ≡ putIn p s room w a t
+  pub put-sound : (a : List ℕ) (t : ℕ) → isSound w ≡ true → isAtom a ≡ true → putAtom s room w a t ≡ putIn (w .phase) s room w a t
   unfolding putAtom
-  put-sound a t e f h = rw (e, f) (ap (λ (q : Phase). putIn q s room w a t) h)
+  put-sound a t e f = rw (e, f)
+
+  pub put-in : (a : List ℕ) (t : ℕ) {p : Phase} → w .phase ≡ p → putIn (w .phase) s room w a t ≡ putIn p s room w a t
+  put-in a t h = ap (λ (q : Phase). putIn q s room w a t) h
+
+  pub token-unsound : (a : List ℕ) (t : ℕ) → isSound w ≡ false → putToken s room w a t ≡ refuse 11 w
+  unfolding putToken
+  token-unsound a t e = rw e
+
+  pub token-sound : (a : List ℕ) (t : ℕ) → isSound w ≡ true → putToken s room w a t ≡ putIn (w .phase) s room w a t
+  unfolding putToken
+  token-sound a t e = rw e
+
+  -- an atom that is one needs no check
+  pub put-is-token : (a : List ℕ) (t : ℕ) → isAtom a ≡ true → putAtom s room w a t ≡ putToken s room w a t
+  unfolding putAtom putToken
+  put-is-token a t f = rw f
 
   pub begin-unsound : (t : ℕ) → isSound w ≡ false → beginList s room w t ≡ refuse 11 w
   unfolding beginList

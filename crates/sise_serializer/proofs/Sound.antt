@@ -3,16 +3,18 @@
 use Prim.Native.Nat.{_+_, _*_, _≤_, _<_}
 use native.Mathlib.Omega.{arith}
 use mathlib.Core.Path.{_≡_, sym, ap, _∙_}
-use mathlib.Core.Bool.{true, false, _&&_}
+use mathlib.Core.Bool.{Bool, true, false, _&&_}
+use mathlib.Core.List.{List}
 use lib.Dec.{leb}
 use borrow.Author.Tests.{le-leb, leb-true}
 use Rattle.sise_serializer.specs.Serializer.{limit, deepest, listsFit, lastBreak, isSound}
+use Rattle.sise_serializer.specs.Steps.{joined}
 use Rattle.sise_serializer.specs.Parts.{Small}
 use Rattle.sise_serializer.specs.declared.serializer.Phase.{Phase}
 use Rattle.sise_serializer.specs.declared.serializer.Phase.the-variants.{Beginning, Writing, Finished, Done}
 use Rattle.sise_serializer.specs.declared.serializer.Serializer.{Serializer}
-use Rattle.sise_util.proofs.Ranges.{split}
-use Rattle.sise_serializer.proofs.Tests.{and-left, and-right}
+use Rattle.sise_serializer.specs.declared.steps.Progress.{Progress}
+use Rattle.sise_util.proofs.Ranges.{split, and-first, and-second}
 
 -- the tests but the last
 pub record Checked (w : Serializer) : Type 0 where
@@ -43,21 +45,21 @@ module _ (w : Serializer) where
       let t4 = listsFit (w .phase) (w .lists) in
       let t3 = leb (w .lists) deepest in
       let t2 = leb (w .«line_len») (w .position) in
-      let h2 = and-right (leb (w .position) limit) (t2 && (t3 && (t4 && (t5 && (t6 && t7))))) h in
-      let h3 = and-right t2 (t3 && (t4 && (t5 && (t6 && t7)))) h2 in
-      let h4 = and-right t3 (t4 && (t5 && (t6 && t7))) h3 in
-      let h5 = and-right t4 (t5 && (t6 && t7)) h4 in
-      let h6 = and-right t5 (t6 && t7) h5 in
+      let h2 = and-second (leb (w .position) limit) (t2 && (t3 && (t4 && (t5 && (t6 && t7))))) h in
+      let h3 = and-second t2 (t3 && (t4 && (t5 && (t6 && t7)))) h2 in
+      let h4 = and-second t3 (t4 && (t5 && (t6 && t7))) h3 in
+      let h5 = and-second t4 (t5 && (t6 && t7)) h4 in
+      let h6 = and-second t5 (t6 && t7) h5 in
       record {
         checked = record {
-          place = leb-true _ _ (and-left (leb (w .position) limit) (t2 && (t3 && (t4 && (t5 && (t6 && t7))))) h);
-          line = leb-true _ _ (and-left t2 (t3 && (t4 && (t5 && (t6 && t7)))) h2);
-          depth = leb-true _ _ (and-left t3 (t4 && (t5 && (t6 && t7))) h3);
-          opens = and-left t4 (t5 && (t6 && t7)) h4;
-          gaps = leb-true _ _ (and-left t5 (t6 && t7) h5);
-          lines = leb-true _ _ (and-left t6 t7 h6);
+          place = leb-true _ _ (and-first (leb (w .position) limit) (t2 && (t3 && (t4 && (t5 && (t6 && t7))))) h);
+          line = leb-true _ _ (and-first t2 (t3 && (t4 && (t5 && (t6 && t7)))) h2);
+          depth = leb-true _ _ (and-first t3 (t4 && (t5 && (t6 && t7))) h3);
+          opens = and-first t4 (t5 && (t6 && t7)) h4;
+          gaps = leb-true _ _ (and-first t5 (t6 && t7) h5);
+          lines = leb-true _ _ (and-first t6 t7 h6);
         };
-        steps = leb-true _ _ (and-right t6 t7 h6);
+        steps = leb-true _ _ (and-second t6 t7 h6);
       }
 
   pub unsound : (Sound w → ⊥) → false ≡ isSound w
@@ -69,11 +71,11 @@ module _ (w : Serializer) where
   checked-sound k =
       simp (le-leb _ _ (k .place), le-leb _ _ (k .line), le-leb _ _ (k .depth), k .opens, le-leb _ _ (k .gaps), le-leb _ _ (k .lines))
 
-  pub small : isSound w ≡ true → Small w
-  small h =
-      let s = sound h in
-      let x = last-small (w .phase) in
-      record { place = omega arith; line = omega arith; depth = omega arith; gaps = omega arith; lines = omega arith; steps = omega arith }
-
   pub writing-lists : isSound w ≡ true → w .phase ≡ Writing → 0 < w .lists
   writing-lists h e = leb-true 1 (w .lists) (ap (λ (p : Phase). listsFit p (w .lists)) (sym e) ∙ sound h .checked .opens)
+
+pub small : (p : Progress) (flags : List Bool) → isSound (joined p flags) ≡ true → Small p
+small p flags h =
+    let s = sound (joined p flags) h in
+    let x = last-small (p .phase) in
+    record { place = omega arith; line = omega arith; depth = omega arith; gaps = omega arith; lines = omega arith; steps = omega arith }

@@ -3,7 +3,7 @@
 use Prim.Native.Nat.{ℕ, _+_, _*_, _≤_, _<_, min}
 use native.Mathlib.Omega.{arith}
 use mathlib.Core.Path.{_≡_, sym, _∙_}
-use mathlib.Core.Bool.{true, false}
+use mathlib.Core.Bool.{Bool, true, false}
 use mathlib.Core.List.{List, _++_}
 use lib.Dec.{leb}
 use lib.ListN.{length}
@@ -54,7 +54,7 @@ module _ (room at layout token : ℕ) where
       (λ t. t)
 
 -- indentations that had room are at most the limit
-pub indents-small : (a : List ℕ) (n : ℕ) (b : List ℕ) {before now token : List ℕ} {at o e : ℕ} {r : Spot}
-    → Placed before at (a ++ repeat n b) token r now → r ≡ At o e → n * length b ≤ limit
+pub indents-small : (a : List ℕ) (n : ℕ) (b : List ℕ) {before now token : List ℕ} {at o e : ℕ} {commit : Bool} {r : Spot}
+    → Placed before at (a ++ repeat n b) token commit r now → r ≡ At o e → n * length b ≤ limit
 indents-small a n b {before} {now} {token} {at} h t =
     omega (arith, found (length before) at (length (a ++ repeat n b)) (length token) (sym t ∙ h .spot) .in-limit, layout-length a n b)

@@ -3,19 +3,11 @@
 use Prim.Native.Nat.{ℕ, _*_, _/_, _≤_}
 use native.Mathlib.Nat.{mul-zero, lt-of-not-le, pos-of-ne-zero, le-div-iff-mul-le}
 use native.Mathlib.Omega.{arith}
-use mathlib.Core.Path.{_≡_, refl, sym, _∙_}
-use mathlib.Core.Bool.{Bool, true, false, false≢true, _&&_, cond}
+use mathlib.Core.Path.{_≡_, sym, _∙_}
+use mathlib.Core.Bool.{Bool, true, false, cond}
 use lib.Dec.{leb}
 use borrow.Author.Tests.{le-leb, lt-leb, leb-true, leb-false}
 use Rattle.sise_util.proofs.Ranges.{split}
-
-pub and-left : (a b : Bool) → a && b ≡ true → a ≡ true
-and-left true b h = refl
-and-left false b h = h
-
-pub and-right : (a b : Bool) → a && b ≡ true → b ≡ true
-and-right true b h = h
-and-right false b h = absurd (false≢true h)
 
 -- two tests with the same answer
 pub leb-same : (a b c d : ℕ) → (a ≤ b → c ≤ d) → (c ≤ d → a ≤ b) → leb a b ≡ leb c d

@@ -1,4 +1,5 @@
 pub mod Bytes
 pub mod Serializer
+pub mod Steps
 pub mod Parts
 pub mod Examples

@@ -10,6 +10,7 @@ use Rattle.sise_serializer.specs.Bytes.{pasted}
 use Rattle.sise_serializer.specs.Serializer.{limit, deepest, Piece, phaseAfter, flagsAfter}
 use Rattle.sise_serializer.specs.declared.serializer.Phase.the-variants.{Writing}
 use Rattle.sise_serializer.specs.declared.serializer.Serializer.{Serializer}
+use Rattle.sise_serializer.specs.declared.steps.Progress.{Progress}
 use Rattle.sise_serializer.specs.declared.buffer.Spot.{Spot}
 use Rattle.sise_serializer.specs.declared.buffer.Spot.the-variants.{At, NoRoom}
 
@@ -24,12 +25,12 @@ after (At offset end) l at b = pasted l at b
 after NoRoom l at b = l
 
 -- the contract of `place`
-pub record Placed (before : List ℕ) (at : ℕ) (layout token : List ℕ) (r : Spot) (now : List ℕ) : Type 0 where
+pub record Placed (before : List ℕ) (at : ℕ) (layout token : List ℕ) (commit : Bool) (r : Spot) (now : List ℕ) : Type 0 where
   pub spot : r ≡ spotOf (length before) at (length layout) (length token)
-  pub buffer : now ≡ after r before at (layout ++ token)
+  pub buffer : now ≡ cond commit (after r before at (layout ++ token)) before
 
 -- bounds of a sound record, for the sums of the code
-pub record Small (w : Serializer) : Type 0 where
+pub record Small (w : Progress) : Type 0 where
   pub place : w .position ≤ limit
   pub line : w .«line_len» ≤ limit
   pub depth : w .lists ≤ deepest
@@ -51,13 +52,13 @@ closedWith w b position line breaks indents = record {
   indents = indents;
 }
 
--- a record after one more item in a list; flags, places and counts are given
-abbrev pub addedWith : Serializer → Bool → List Bool → ℕ → ℕ → ℕ → ℕ → ℕ → Serializer
-addedWith w isList flags position line spaces breaks indents = record {
+-- a record after one more item in the innermost of `lists` lists; flags, places and counts are given
+abbrev pub addedWith : ℕ → Bool → List Bool → ℕ → ℕ → ℕ → ℕ → ℕ → Serializer
+addedWith lists isList flags position line spaces breaks indents = record {
   position = position;
   phase = Writing;
-  lists = cond isList (w .lists + 1) (w .lists);
-  «line_broken» = cond isList (set flags (w .lists) false) flags;
+  lists = cond isList (lists + 1) lists;
+  «line_broken» = cond isList (set flags lists false) flags;
   «list_beginning» = isList;
   «line_len» = line;
   spaces = spaces;
@@ -70,5 +71,5 @@ unfoldable pub inLine : Serializer → List ℕ → Bool → List ℕ → Piece
 inLine w token isList lead = record {
   layout = lead;
   token = token;
-  after = addedWith w isList (w .«line_broken») (w .position + length lead + length token) (w .«line_len» + length lead + length token) (w .spaces + length lead) (w .breaks) (w .indents);
+  after = addedWith (w .lists) isList (w .«line_broken») (w .position + length lead + length token) (w .«line_len» + length lead + length token) (w .spaces + length lead) (w .breaks) (w .indents);
 }

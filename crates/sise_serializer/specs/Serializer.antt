@@ -91,6 +91,11 @@ answerAs WritingNotFinished = refused 20
 answerAs TooDeep = refused 21
 answerAs NoRoom = refused 22
 
+-- a refusal's number, and 0 where there is none
+abbrev pub numberOf : Answer → ℕ
+numberOf (accepted offset) = 0
+numberOf (refused n) = n
+
 -- the record after a call, its answer, and the bytes that it writes from the old position on
 pub record Written : Type 0 where
   pub serializer : Serializer

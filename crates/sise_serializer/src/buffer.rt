@@ -101,7 +101,7 @@ fn write(buf: &mut [u8], at: usize, lead: &[u8], times: usize, indentation: &[u8
     copy(buf, end, token);
 }
 
-// Writes the three where they have room, and leaves the buffer alone where they have none.
+// Writes the three where they have room, if `commit` is on, and leaves the buffer alone otherwise.
 pub fn place(
     buf: &mut [u8],
     at: usize,
@@ -109,8 +109,9 @@ pub fn place(
     times: usize,
     indentation: &[u8],
     token: &[u8],
+    commit: bool,
 ) -> Spot
-    ensures { λ r. ⌜ Placed (now (buf .entry)) at (now (lead .entry) ++ repeat times (now (indentation .entry))) (now (token .entry)) r (now (buf .exit)) ⌝ }
+    ensures { λ r. ⌜ Placed (now (buf .entry)) at (now (lead .entry) ++ repeat times (now (indentation .entry))) (now (token .entry)) commit r (now (buf .exit)) ⌝ }
 {
     let spot = find_spot(
         at,
@@ -120,8 +121,10 @@ pub fn place(
         indentation.len(),
         token.len(),
     );
-    if let Spot::At(_, _) = spot {
-        write(buf, at, lead, times, indentation, token);
+    if commit {
+        if let Spot::At(_, _) = spot {
+            write(buf, at, lead, times, indentation, token);
+        }
     }
     spot
 }

@@ -1,7 +1,7 @@
 -- What a test that antt computes shows of every number of a range: how a rule over all bytes, or over an arm of a `match`, is proved once.
 -- Assumes nothing.
 use mathlib.Core.Path.{_≡_, refl, subst}
-use mathlib.Core.Bool.{Bool, true, false, _&&_, Bool·beq}
+use mathlib.Core.Bool.{Bool, true, false, _&&_, Bool·beq, false≢true}
 use Prim.Native.Nat.{ℕ, zero, suc, _+_, _-_, _≤_, _<_}
 use native.Mathlib.Omega.{arith}
 use lib.Dec.{T, eqb, ltb}
@@ -19,6 +19,19 @@ and-left false b t = t
 pub and-right : (a b : Bool) → T (a && b) → T b
 and-right true b t = t
 and-right false b t = absurd t
+
+-- two tests in one, as an equation
+pub and-first : (a b : Bool) → a && b ≡ true → a ≡ true
+and-first true b h = refl
+and-first false b h = h
+
+pub and-second : (a b : Bool) → a && b ≡ true → b ≡ true
+and-second true b h = h
+and-second false b h = absurd (false≢true h)
+
+pub both : (a b : Bool) → a ≡ true → b ≡ true → a && b ≡ true
+both true b h k = k
+both false b h k = h
 
 -- f passes at the n numbers from lo on
 abbrev pub allFrom : (ℕ → Bool) → ℕ → ℕ → Bool

@@ -1,7 +1,7 @@
 -- The definition of a character, octet by octet over a text: the steps that the code makes.
 -- Assumes nothing.
 use mathlib.Core.Path.{_≡_, refl, sym, ap, _∙_}
-use mathlib.Core.Bool.{Bool, true, false, _&&_, false≢true}
+use mathlib.Core.Bool.{true, false}
 use mathlib.Core.List.{List, [], _∷_, _++_}
 use Prim.Native.Nat.{ℕ, zero, suc, _+_, _-_, _*_, _≤_, _<_}
 use native.Mathlib.Omega.{arith}
@@ -13,15 +13,7 @@ use Rattle.sise_util.specs.Utf8.{Range, range, tail, Form, form, forms, 
 use Rattle.sise_util.specs.declared.utf8.Character.{Character}
 use Rattle.sise_util.specs.declared.utf8.Character.the-variants.{Well, Ill}
 use Rattle.sise_util.proofs.Lists.{drop-next}
-use Rattle.sise_util.proofs.Ranges.{split}
-
-and-first : (a b : Bool) → a && b ≡ true → a ≡ true
-and-first true b h = refl
-and-first false b h = h
-
-and-second : (a b : Bool) → a && b ≡ true → b ≡ true
-and-second true b h = h
-and-second false b h = absurd (false≢true h)
+use Rattle.sise_util.proofs.Ranges.{split, and-first, and-second}
 
 pub within-yes : (lo hi b : ℕ) → lo ≤ b → b ≤ hi → within lo hi b ≡ true
 unfolding within

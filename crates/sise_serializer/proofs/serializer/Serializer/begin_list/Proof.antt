@@ -1,114 +1,32 @@
--- Each return is the definition's answer at the test of the record, at the phase and at the depth.
+-- The step does it; the flags that it leaves are packed with what it hands back.
 -- Assumes nothing.
-use mathlib.Core.Path.{_≡_, refl, sym, _∙_}
-use mathlib.Core.Bool.{true}
+use lib.ListN.{length}
 use borrow.Author.Needs.{needs}
-use borrow.Author.Tests.{lt-ltb, le-ltb, not-true, not-false}
-use Rattle.sise_serializer.specs.Serializer.{isSound, beginIn}
-use Rattle.sise_serializer.proofs.Sound.{small, writing-lists}
-use Rattle.sise_serializer.proofs.Does.{refused-does, begin-unsound, begin-sound}
+use Rattle.sise_serializer.specs.Serializer.{style, beginList}
+use Rattle.sise_serializer.specs.declared.serializer.Serializer.{Serializer}
+use Rattle.sise_serializer.proofs.Does.{step-does}
 use Rattle.sise_serializer.proofs.serializer.Serializer.begin_list.Statement.{statement}
 use Rattle.sise_serializer.proofs.serializer.Serializer.begin_list.Tie as tie
 
-is-sound-requires : tie.Need-is-sound-requires
-is-sound-requires c κs = search needs
+progress-requires : tie.Need-progress-requires
+progress-requires c κs = search needs
 
-returns : tie.Need-returns
-unfolding beginIn
-returns c =
-    let a = c .before .before .before .before .before .args in
-    rw (begin-unsound _ _ (a .self) _ (sym (c .before .is-sound .ensures) ∙ not-true _ (c .if1 .taken))) (refused-does (a .self) (a .buf .now) 11 _ refl)
+begin-step-requires : tie.Need-begin-step-requires
+begin-step-requires c κs = search needs
 
--- past the test of the record
-is-sound : (c : tie.Else1) → isSound (c .before .before .before .before .before .args .self) ≡ true
-is-sound c = sym (c .before .is-sound .ensures) ∙ not-false _ (c .if1 .left)
-
-enum-told : tie.Need-enum-told
-enum-told c = search needs
-
-first-list-requires : tie.Need-first-list-requires
-first-list-requires c κs = search needs
-
-enum-told-2 : tie.Need-enum-told-2
-enum-told-2 c = search needs
-
-returns-2 : tie.Need-returns-2
-unfolding beginIn
-returns-2 c =
-    let told = c .before .before in
-    let el = told .before .before in
-    let a = el .before .before .before .before .before .args in
-    rw (begin-sound _ _ (a .self) _ (is-sound el) (told .enum-told2 .given .1), le-ltb _ _ (c .if2 .taken)) (refused-does (a .self) (a .buf .now) 21 _ refl)
-
-slice-aggregate-inner : tie.Need-slice-aggregate-inner
-slice-aggregate-inner c = search needs
-
-inner-requires : tie.Need-inner-requires
-inner-requires c κs =
-    let e2 = c .before .before in
-    let told = e2 .before .before in
-    let el = told .before .before in
-    let w = el .before .before .before .before .before .args .self in
-    ((small w (is-sound el), writing-lists w (is-sound el) (told .enum-told2 .given .1)), λ _. e2 .if2 .left)
-
-enum-told-3 : tie.Need-enum-told-3
-enum-told-3 c = search needs
-
-enum-told-4 : tie.Need-enum-told-4
-enum-told-4 c = search needs
+pack-requires : tie.Need-pack-requires
+pack-requires c κs = search needs
 
 same-length : tie.Need-same-length
 same-length c = search needs
 
-returns-3 : tie.Need-returns-3
-unfolding beginIn
-returns-3 c =
-    let first = c .before .before in
-    let told = first .before .before in
-    rw (begin-sound _ _ _ _ (is-sound (told .before .before)) (told .enum-told .given .1)) (first .first-list .ensures)
-
-same-length-2 : tie.Need-same-length-2
-same-length-2 c = search needs
-
-returns-4 : tie.Need-returns-4
-unfolding beginIn
-returns-4 c =
-    let item = c .before .before in
-    let e2 = item .before .before .before in
-    let told = e2 .before .before in
-    rw (begin-sound _ _ _ _ (is-sound (told .before .before)) (told .enum-told2 .given .1), lt-ltb _ _ (e2 .if2 .left)) (item .inner .ensures)
-
-returns-5 : tie.Need-returns-5
-unfolding beginIn
-returns-5 c =
-    let el = c .before .before in
-    let a = el .before .before .before .before .before .args in
-    rw (begin-sound _ _ (a .self) _ (is-sound el) (c .enum-told3 .given .1)) (refused-does (a .self) (a .buf .now) 19 _ refl)
-
-returns-6 : tie.Need-returns-6
-unfolding beginIn
-returns-6 c =
-    let el = c .before .before in
-    let a = el .before .before .before .before .before .args in
-    rw (begin-sound _ _ (a .self) _ (is-sound el) (c .enum-told4 .given .1)) (refused-does (a .self) (a .buf .now) 19 _ refl)
+returns : tie.Need-returns
+returns c =
+    let st = c .before .before .before in
+    let pr = st .before .before .before in
+    let a = pr .before .before .before .before .before .args in
+    step-does (λ (w : Serializer). beginList (style (a .line-break .now) (a .indentation .now)) (length (a .buf .now)) w (a .break-line-at)) (pr .progress .ensures) (st .begin-step .ensures) (c .pack .ensures .0) (c .pack .ensures .1)
 
 pub begin-list-spec : {M : Type 1} → statement M
 begin-list-spec =
-    tie.close
-    (tie.spec
-    is-sound-requires
-    returns
-    enum-told
-    first-list-requires
-    enum-told-2
-    returns-2
-    slice-aggregate-inner
-    inner-requires
-    enum-told-3
-    enum-told-4
-    same-length
-    returns-3
-    same-length-2
-    returns-4
-    returns-5
-    returns-6)
+    tie.close (tie.spec progress-requires begin-step-requires pack-requires same-length returns)

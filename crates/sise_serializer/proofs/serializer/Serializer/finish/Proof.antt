@@ -1,88 +1,32 @@
--- Each return is the definition's answer at the test of the record and at the phase; only a finished text goes on to `last`.
+-- The step does it; the flags that it leaves are packed with what it hands back.
 -- Assumes nothing.
-use mathlib.Core.Path.{_≡_, refl, sym, _∙_}
-use mathlib.Core.Bool.{true}
+use lib.ListN.{length}
 use borrow.Author.Needs.{needs}
-use borrow.Author.Tests.{not-true, not-false}
-use Rattle.sise_serializer.specs.Serializer.{isSound, last, finishIn}
-use Rattle.sise_serializer.proofs.Sound.{small}
-use Rattle.sise_serializer.proofs.Does.{refused-does, finish-unsound, finish-sound}
+use Rattle.sise_serializer.specs.Serializer.{style, finishWriting}
+use Rattle.sise_serializer.specs.declared.serializer.Serializer.{Serializer}
+use Rattle.sise_serializer.proofs.Does.{step-does}
 use Rattle.sise_serializer.proofs.serializer.Serializer.finish.Statement.{statement}
 use Rattle.sise_serializer.proofs.serializer.Serializer.finish.Tie as tie
 
-is-sound-requires : tie.Need-is-sound-requires
-is-sound-requires c κs = search needs
+progress-requires : tie.Need-progress-requires
+progress-requires c κs = search needs
 
-returns : tie.Need-returns
-returns c =
-    let a = c .before .before .before .before .before .args in
-    rw (finish-unsound _ _ (a .self) _ (sym (c .before .is-sound .ensures) ∙ not-true _ (c .if1 .taken))) (refused-does (a .self) (a .buf .now) 11 _ refl)
+finish-step-requires : tie.Need-finish-step-requires
+finish-step-requires c κs = search needs
 
-enum-told : tie.Need-enum-told
-enum-told c = search needs
-
-enum-told-2 : tie.Need-enum-told-2
-enum-told-2 c = search needs
-
-enum-told-3 : tie.Need-enum-told-3
-enum-told-3 c = search needs
-
--- past the test of the record
-is-sound : (c : tie.Else1) → isSound (c .before .before .before .before .before .args .self) ≡ true
-is-sound c = sym (c .before .is-sound .ensures) ∙ not-false _ (c .if1 .left)
-
-last-requires : tie.Need-last-requires
-last-requires c κs =
-    let el = c .before .before .before in
-    small (el .before .before .before .before .before .args .self) (is-sound el)
-
-enum-told-4 : tie.Need-enum-told-4
-enum-told-4 c = search needs
-
-returns-2 : tie.Need-returns-2
-unfolding finishIn
-returns-2 c =
-    let el = c .before .before in
-    let a = el .before .before .before .before .before .args in
-    rw (finish-sound _ _ (a .self) _ (is-sound el) (c .enum-told .given .1)) (refused-does (a .self) (a .buf .now) 20 _ refl)
-
-returns-3 : tie.Need-returns-3
-unfolding finishIn
-returns-3 c =
-    let el = c .before .before in
-    let a = el .before .before .before .before .before .args in
-    rw (finish-sound _ _ (a .self) _ (is-sound el) (c .enum-told2 .given .1)) (refused-does (a .self) (a .buf .now) 20 _ refl)
+pack-requires : tie.Need-pack-requires
+pack-requires c κs = search needs
 
 same-length : tie.Need-same-length
 same-length c = search needs
 
-returns-4 : tie.Need-returns-4
-unfolding last finishIn
-returns-4 c =
-    let la = c .before .before in
-    let told = la .before .before in
-    rw (finish-sound _ _ _ _ (is-sound (told .before .before)) (told .enum-told3 .given .1)) (la .last .ensures)
-
-returns-5 : tie.Need-returns-5
-unfolding finishIn
-returns-5 c =
-    let el = c .before .before in
-    let a = el .before .before .before .before .before .args in
-    rw (finish-sound _ _ (a .self) _ (is-sound el) (c .enum-told4 .given .1)) (refused-does (a .self) (a .buf .now) 19 _ refl)
+returns : tie.Need-returns
+returns c =
+    let st = c .before .before .before in
+    let pr = st .before .before .before in
+    let a = pr .before .before .before .before .before .args in
+    step-does (λ (w : Serializer). finishWriting (style (a .line-break .now) (a .indentation .now)) (length (a .buf .now)) w (a .insert-line-break)) (pr .progress .ensures) (st .finish-step .ensures) (c .pack .ensures .0) (c .pack .ensures .1)
 
 pub finish-spec : {M : Type 1} → statement M
 finish-spec =
-    tie.close
-    (tie.spec
-    is-sound-requires
-    returns
-    enum-told
-    enum-told-2
-    enum-told-3
-    last-requires
-    enum-told-4
-    returns-2
-    returns-3
-    same-length
-    returns-4
-    returns-5)
+    tie.close (tie.spec progress-requires finish-step-requires pack-requires same-length returns)
