@@ -14,8 +14,9 @@ use Rattle.sise_tree.specs.Answers.{Answer, answered, refusedWith}
 unfoldable mutual
   -- "a path of 64-bit child indices from 0 and answers the node's index; the empty path gives 0": from the node n, whose index is i
   pub nodeAt : Node → ℕ → List ℕ → Option ℕ
-  nodeAt n i [] = some i
+  nodeAt (atom p m) i [] = some i
   nodeAt (atom p m) i (k ∷ path) = none
+  nodeAt (list c) i [] = some i
   nodeAt (list c) i (k ∷ path) = childAt c (i + 1) k path
 
   -- from the k-th of the nodes, the first of which has the index i

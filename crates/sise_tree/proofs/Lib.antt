@@ -1,0 +1,5 @@
+pub mod TreeLaws
+pub mod DecisionLaws
+pub mod Rows
+pub mod LocalLaws
+pub mod LocalSteps
