@@ -5,7 +5,7 @@ use native.Mathlib.Numerals.{one-add}
 use native.Mathlib.Nat.{add-zero}
 use native.Mathlib.Omega.{arith}
 use mathlib.Core.Path.{_≡_, refl, sym, ap, _∙_}
-use mathlib.Core.Bool.{true, false, _&&_}
+use mathlib.Core.Bool.{true, false, _&&_, false≢true}
 use mathlib.Core.Option.{Option, none, some}
 use mathlib.Core.List.{List, _∷_, _++_, append-assoc}
 use lib.Dec.{leb, ltb, eqb}
@@ -29,7 +29,7 @@ fills-le words (suc c) i e h = let lt = and-first (ltb i e) _ h in omega (arith,
 
 module _ (l : ℕ) (words : List ℕ) where
   -- each node from a up to e is good
-  abbrev Each : ℕ → ℕ → Type 0
+  abbrev pub Each : ℕ → ℕ → Type 0
   Each a e = (k : ℕ) → a ≤ k → k < e → good l words k ≡ true
 
   -- a row of c nodes from a up to e, made of the checks
@@ -106,15 +106,15 @@ module _ (l : ℕ) (words : List ℕ) where
       (n, holds)
 
   -- the words of a node are these, and these follow it
-  record Stands (a k x y p : ℕ) (rest : List ℕ) : Type 0 where
-    kinds : kind words a ≡ k
-    firsts : first words a ≡ x
-    seconds : second words a ≡ y
-    spans : span words a ≡ p
-    after : drop (4 * (a + 1)) words ≡ rest
-    within : 4 * (a + 1) + length rest ≤ length words
+  pub record Stands (a k x y p : ℕ) (rest : List ℕ) : Type 0 where
+    pub kinds : kind words a ≡ k
+    pub firsts : first words a ≡ x
+    pub seconds : second words a ≡ y
+    pub spans : span words a ≡ p
+    pub after : drop (4 * (a + 1)) words ≡ rest
+    pub within : 4 * (a + 1) + length rest ≤ length words
 
-  stands : (a : ℕ) {k x y p : ℕ} {rest : List ℕ} → drop (4 * a) words ≡ k ∷ x ∷ y ∷ p ∷ rest → Stands a k x y p rest
+  pub stands : (a : ℕ) {k x y p : ℕ} {rest : List ℕ} → drop (4 * a) words ≡ k ∷ x ∷ y ∷ p ∷ rest → Stands a k x y p rest
   stands a {rest} e =
       record {
         kinds = rw (add-zero (4 * a)) at (sym (getD-drop (4 * a) words 0 0) ∙ ap (λ (ws : List ℕ). getD ws 0 0) e);
@@ -131,7 +131,7 @@ module _ (l : ℕ) (words : List ℕ) where
   each-join : {a m e : ℕ} → Each a m → Each m e → Each a e
   each-join {m} p q k h g = split (ltb k m) (λ t. p k h (ltb-true k m t)) (λ t. q k (ltb-false k m t) g)
 
-  skip : (n : Node) (a : ℕ) (rest : List ℕ) → drop (4 * a) words ≡ table n ++ rest → drop (4 * (a + size n)) words ≡ rest
+  pub skip : (n : Node) (a : ℕ) (rest : List ℕ) → drop (4 * a) words ≡ table n ++ rest → drop (4 * (a + size n)) words ≡ rest
   skip n a rest e =
       ap (λ (i : ℕ). drop i words) {x = 4 * (a + size n)} {y = 4 * a + 4 * size n} (omega arith)
       ∙ sym (drop-drop (4 * size n) (4 * a) words)
@@ -150,7 +150,7 @@ module _ (l : ℕ) (words : List ℕ) where
   mutual
     unfolding fills fillsIn size sizes children table tables lies liesAll
 
-    node-local :
+    pub node-local :
         (n : Node) (a : ℕ) (rest : List ℕ) → drop (4 * a) words ≡ table n ++ rest → lies l n ≡ true
         → (span words a ≡ size n) × Each a (a + size n)
     node-local (atom p n) a rest e t = let s = stands a e in (s .spans, each-one (good-atom s t))
@@ -161,7 +161,7 @@ module _ (l : ℕ) (words : List ℕ) where
         let within : a + (1 + sizes c) ≤ length words / 4 = omega (arith, s .within, length-append (tables c) rest, length-tables c) in
         (s .spans, each-join (each-one (good-list s (both _ _ (le-leb _ _ within) (rw z at own)))) (rw z at each))
 
-    row-local :
+    pub row-local :
         (c : Nodes) (a : ℕ) (rest : List ℕ) → drop (4 * a) words ≡ tables c ++ rest → liesAll l c ≡ true
         → (fills words (children c) a (a + sizes c) ≡ true) × Each a (a + sizes c)
     row-local empty a rest e t = (eq-eqb a (a + 0) (omega arith), λ k h g. absurd (omega arith))
@@ -196,6 +196,15 @@ module _ (l : ℕ) (words : List ℕ) where
   holds-here {n} e =
       let h = decide-sound e in
       record { holds = h; tree = holds-sound n h; spans = node-local n 0 (drop (length (table n)) words) (holds-words h) (h .inText) .0; fits = holds-fits h }
+
+  -- after holds_tree has answered true
+  pub held : isSome (decide l words) ≡ true → (n : Node) × (decide l words ≡ some n) × Held n
+  unfolding isSome
+  held = of (decide l words) refl
+    where
+      of : (d : Option Node) → decide l words ≡ d → isSome d ≡ true → (n : Node) × (decide l words ≡ some n) × Held n
+      of none e h = absurd (false≢true h)
+      of (some n) e h = (n, e, holds-here e)
 
   -- the decision by the checks
   pub sound-decides : HoldsTree l words → isSome (decide l words) ≡ true

@@ -53,9 +53,19 @@ module _ (l : ℕ) (words : List ℕ) (i : ℕ) (within : i < length words / 4) 
   good-within = rw (lt-ltb i (length words / 4) within)
 
   -- x, y and s are the words that the code has read
-  pub good-text : {x y s : ℕ} → x ≡ first words i → y ≡ second words i → s ≡ span words i → kind words i ≡ 1 → s ≡ 1 → goodIn l words i ≡ leb (x + y) l
+  pub good-list :
+      {x y s : ℕ} → x ≡ first words i → y ≡ second words i → s ≡ span words i → kind words i ≡ 0 → y ≡ 0
+      → goodIn l words i ≡ fillsIn words x (i + 1) (i + s)
   unfolding good
-  good-text ex ey es k s = good-within ∙ rw (k, good, sym es ∙ s, sym ex, sym ey)
+  good-list ex ey es k y = good-within ∙ rw (k, good, sym ey ∙ y, sym ex, sym es)
+
+  pub good-linked : {y : ℕ} → y ≡ second words i → kind words i ≡ 0 → (y ≡ 0 → ⊥) → goodIn l words i ≡ false
+  unfolding good
+  good-linked ey k y = good-within ∙ rw (k, good, ne-eqb (second words i) 0 (λ e. y (ey ∙ e)))
+
+  pub good-atom : {x y s : ℕ} → x ≡ first words i → y ≡ second words i → s ≡ span words i → kind words i ≡ 1 → s ≡ 1 → goodIn l words i ≡ leb (x + y) l
+  unfolding good
+  good-atom ex ey es k s = good-within ∙ rw (k, good, sym es ∙ s, sym ex, sym ey)
 
   pub good-long : {s : ℕ} → s ≡ span words i → kind words i ≡ 1 → (s ≡ 1 → ⊥) → goodIn l words i ≡ false
   unfolding good
@@ -64,13 +74,3 @@ module _ (l : ℕ) (words : List ℕ) (i : ℕ) (within : i < length words / 4) 
   pub good-other : (kind words i ≡ 1 → ⊥) → (kind words i ≡ 0 → ⊥) → goodIn l words i ≡ false
   unfolding good
   good-other k₁ k₀ = good-within ∙ rw (ne-eqb (kind words i) 1 k₁, good, ne-eqb (kind words i) 0 k₀)
-
-  pub good-filled : {y : ℕ} → y ≡ second words i → kind words i ≡ 0 → (y ≡ 0 → ⊥) → goodIn l words i ≡ false
-  unfolding good
-  good-filled ey k y = good-within ∙ rw (k, good, ne-eqb (second words i) 0 (λ e. y (ey ∙ e)))
-
-  pub good-fills :
-      {x y s : ℕ} → x ≡ first words i → y ≡ second words i → s ≡ span words i → kind words i ≡ 0 → y ≡ 0
-      → goodIn l words i ≡ fillsIn words x (i + 1) (i + s)
-  unfolding good
-  good-fills ex ey es k y = good-within ∙ rw (k, good, sym ey ∙ y, sym ex, sym es)

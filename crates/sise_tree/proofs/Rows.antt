@@ -30,4 +30,3 @@ four words a h = go (4 * a) (omega arith) (omega arith)
           drop-cons words (suc (suc i)) 0 (omega arith),
           drop-cons words (suc (suc (suc i))) 0 (omega arith),
         )
-
