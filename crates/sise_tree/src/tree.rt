@@ -59,16 +59,11 @@ fn node_holds(text_len: usize, table: &[u32], i: usize) -> bool
     let first = wide(table[4 * i + 1]);
     let second = wide(table[4 * i + 2]);
     let span = wide(table[4 * i + 3]);
-    if kind == 1 {
-        if span != 1 {
-            return false;
-        }
-        return first + second <= text_len;
+    match kind {
+        0 => second == 0 && fills(table, first, i + 1, i + span),
+        1 => span == 1 && first + second <= text_len,
+        _ => false,
     }
-    if kind != 0 || second != 0 {
-        return false;
-    }
-    fills(table, first, i + 1, i + span)
 }
 
 // Whether the table holds a tree over a text of `text_len` bytes. Each node is tested by itself, which is enough (proofs/LocalLaws.antt), and stepped
@@ -81,7 +76,10 @@ pub fn holds_tree(text_len: usize, table: &[u32]) -> bool
         return false;
     }
     let end = wide(table[3]);
-    if end == 0 || end > nodes {
+    if end == 0 {
+        return false;
+    }
+    if end > nodes {
         return false;
     }
     let mut i = 0;

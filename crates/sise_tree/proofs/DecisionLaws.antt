@@ -1,0 +1,122 @@
+-- The decision answers `some n` exactly if the words hold `n`.
+-- Assumes nothing.
+use Prim.Native.Nat.{ℕ, zero, suc, _+_, _<_}
+use native.Mathlib.Numerals.{one-add}
+use native.Mathlib.Omega.{arith}
+use mathlib.Core.Path.{_≡_, refl, sym, _∙_}
+use mathlib.Core.Bool.{Bool, true, false, false≢true}
+use mathlib.Core.Option.{Option, none, some, Option·some-injective}
+use mathlib.Core.List.{List, [], _∷_, _++_, append-assoc, append-nil}
+use lib.Dec.{leb, eqb}
+use lib.ListN.{length, drop}
+use borrow.Author.Tests.{eqb-true, eq-eqb}
+use Rattle.sise_util.proofs.Ranges.{split}
+use Rattle.sise_layout.proofs.Blanks.{both}
+use Rattle.sise_tree.specs.Tree.{Node, atom, list, Nodes, empty, _then_, size, sizes, children, table, tables, lies, liesAll, Holds}
+use Rattle.sise_tree.proofs.TreeLaws.{anded, row-holds, holds-words, words-after, holds-fits}
+use Rattle.sise_tree.specs.Decision.{guard, bind, Read, ahead, row, only, decide}
+
+none-some : {A B : Type 0} {a : A} → _≡_ {A = Option A} none (some a) → B
+none-some h = let z : _≡_ {A = ℕ} 0 1 = cc in absurd (omega arith)
+
+-- an answer came of a guard, or of a bind: what that says, to go on with
+guarded : {A C : Type 0} {t : Bool} {x : Option A} {a : A} → guard t x ≡ some a → (t ≡ true → x ≡ some a → C) → C
+unfolding guard
+guarded {t = true} h k = k refl h
+guarded {t = false} h k = none-some h
+
+bound : {A B C : Type 0} {x : Option A} {f : A → Option B} {b : B} → bind x f ≡ some b → ((a : A) → x ≡ some a → f a ≡ some b → C) → C
+unfolding bind
+bound {x = none} h k = none-some h
+bound {x = some a} h k = k a refl h
+
+-- what was read of the words: so many nodes, whose atoms lie in the text
+record Spelt (l c : ℕ) (ws : List ℕ) (r : Read) : Type 0 where
+  words : ws ≡ tables (r .nodes) ++ r .rest
+  count : children (r .nodes) ≡ c
+  inText : liesAll l (r .nodes) ≡ true
+
+spelt-none : (l : ℕ) (ws : List ℕ) → Spelt l 0 ws (record { nodes = empty; rest = ws })
+unfolding tables children liesAll
+spelt-none l ws = record { words = refl; count = refl; inText = refl }
+
+spelt-atom : {l c : ℕ} (a b : ℕ) {k s : ℕ} {ws : List ℕ} {r : Read} → k ≡ 1 → s ≡ 1 → leb (a + b) l ≡ true → Spelt l c ws r → Spelt l (suc c) (k ∷ a ∷ b ∷ s ∷ ws) (ahead (atom a b) r)
+unfolding ahead table tables children lies liesAll
+spelt-atom a b ek es t h = record { words = cc (h .words); count = omega (arith, h .count); inText = both _ _ t (h .inText) }
+
+spelt-list :
+    {l c a b k s : ℕ} {ws : List ℕ} {r q : Read} → k ≡ 0 → b ≡ 0 → s ≡ 1 + sizes (r .nodes) → Spelt l a ws r → Spelt l c (r .rest) q
+    → Spelt l (suc c) (k ∷ a ∷ b ∷ s ∷ ws) (ahead (list (r .nodes)) q)
+unfolding ahead table tables children lies liesAll
+spelt-list {r} {q} ek eb es h g =
+    record {
+      words = cc (h .words, h .count, g .words, append-assoc (tables (r .nodes)) (tables (q .nodes)) (q .rest));
+      count = omega (arith, g .count);
+      inText = both _ _ (h .inText) (g .inText);
+    }
+
+row-sound : (f l c : ℕ) (ws : List ℕ) {r : Read} → row f l c ws ≡ some r → Spelt l c ws r
+unfolding row
+row-sound zero l c ws h = none-some h
+row-sound (suc f) l zero ws h = rw (Option·some-injective _ _ h) at (spelt-none l ws)
+row-sound (suc f) l (suc c) [] h = none-some h
+row-sound (suc f) l (suc c) (k ∷ []) h = none-some h
+row-sound (suc f) l (suc c) (k ∷ a ∷ []) h = none-some h
+row-sound (suc f) l (suc c) (k ∷ a ∷ b ∷ []) h = none-some h
+row-sound (suc f) l (suc c) (k ∷ a ∷ b ∷ s ∷ ws) h =
+    split (eqb k 1)
+    (λ ek.
+    guarded (rw (ek, row) at h) λ es x.
+    guarded x λ t y.
+    bound y λ r i o.
+    rw (Option·some-injective _ _ o) at (spelt-atom a b (eqb-true k 1 ek) (eqb-true s 1 es) t (row-sound f l c ws i)))
+    (λ ek.
+    guarded (rw (ek, row) at h) λ ez x.
+    guarded x λ eb y.
+    bound y λ r i z.
+    guarded z λ es v.
+    bound v λ q j o.
+    rw (Option·some-injective _ _ o) at
+    (spelt-list (eqb-true k 0 ez) (eqb-true b 0 eb) (eqb-true s _ es) (row-sound f l a ws i) (row-sound f l c (r .rest) j)))
+
+row-complete :
+    (f l : ℕ) (ns : Nodes) (rest : List ℕ) → liesAll l ns ≡ true → sizes ns < f
+    → row f l (children ns) (tables ns ++ rest) ≡ some (record { nodes = ns; rest = rest })
+unfolding row ahead guard bind size sizes children table tables lies liesAll
+row-complete zero l ns rest t u = absurd (omega arith)
+row-complete (suc f) l empty rest t u = refl
+row-complete (suc f) l (atom p n then ns) rest t u =
+    anded {a = leb (p + n) l} t λ here more. rw (one-add (children ns), here, row-complete f l ns rest more (omega arith))
+row-complete (suc f) l (list cs then ns) rest t u =
+    anded {a = liesAll l cs} t λ inside more.
+    rw (
+      one-add (children ns),
+      append-assoc (tables cs) (tables ns) rest,
+      row-complete f l cs (tables ns ++ rest) inside (omega arith),
+      eq-eqb (1 + sizes cs) (1 + sizes cs) refl,
+      row-complete f l ns rest more (omega arith),
+    )
+
+pub decide-sound : {l : ℕ} {words : List ℕ} {n : Node} → decide l words ≡ some n → Holds l words n
+unfolding decide only
+decide-sound {l} {words} {n} h =
+    bound h λ r i o.
+    let s = row-sound (suc (length words)) l 1 words i in
+    let (m, one, holds) = row-holds (r .nodes) (r .rest) (s .count) (s .words) (s .inText) in
+    rw (Option·some-injective m n (rw one at o)) at holds
+
+pub decide-complete : {l : ℕ} {words : List ℕ} {n : Node} → Holds l words n → decide l words ≡ some n
+unfolding decide only bind size sizes children table tables lies liesAll
+decide-complete {l} {words} {n} h =
+    let rest = drop (length (table n)) words in
+    let e : tables (n then empty) ++ rest ≡ words = rw (append-nil (table n)) (sym (holds-words h)) in
+    let u : sizes (n then empty) < suc (length words) = omega (arith, holds-fits h) in
+    rw (rw e at (row-complete (suc (length words)) l (n then empty) rest (both _ _ (h .inText) refl) u))
+
+-- whatever the words after its table are
+pub decide-after : (l : ℕ) (n : Node) (rest : List ℕ) → lies l n ≡ true → decide l (table n ++ rest) ≡ some n
+decide-after l n rest t = decide-complete (words-after l n rest t)
+
+-- so the words hold one tree at most
+pub holds-once : {l : ℕ} {words : List ℕ} {n m : Node} → Holds l words n → Holds l words m → n ≡ m
+holds-once h g = Option·some-injective _ _ (sym (decide-complete h) ∙ decide-complete g)
