@@ -5,4 +5,3 @@ pub mod Claim
 pub mod Words
 pub mod Examples
 pub mod WordExamples
-pub mod Rows

@@ -10,8 +10,7 @@ use mathlib.Core.List.{List, [], _∷_, _++_, append-assoc, append-nil}
 use lib.Dec.{leb, eqb}
 use lib.ListN.{length, drop}
 use borrow.Author.Tests.{eqb-true, eq-eqb}
-use Rattle.sise_util.proofs.Ranges.{split}
-use Rattle.sise_layout.proofs.Blanks.{both}
+use Rattle.sise_util.proofs.Ranges.{split, both}
 use Rattle.sise_tree.specs.Tree.{Node, atom, list, Nodes, empty, _then_, size, sizes, children, table, tables, lies, liesAll, Holds}
 use Rattle.sise_tree.proofs.TreeLaws.{anded, row-holds, holds-words, words-after, holds-fits}
 use Rattle.sise_tree.specs.Decision.{guard, bind, Read, ahead, row, only, decide}

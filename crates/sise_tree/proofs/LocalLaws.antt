@@ -12,9 +12,7 @@ use lib.Dec.{leb, ltb, eqb}
 use lib.ListN.{length, getD, drop, length-append, length-drop}
 use lib.Seq.{drop-drop, drop-at, getD-drop}
 use borrow.Author.Tests.{ltb-true, ltb-false, leb-true, eqb-true, lt-ltb, le-leb, eq-eqb}
-use Rattle.sise_util.proofs.Ranges.{split}
-use Rattle.sise_parser.proofs.Calls.{and-first}
-use Rattle.sise_layout.proofs.Blanks.{both}
+use Rattle.sise_util.proofs.Ranges.{split, and-first, both}
 use Rattle.sise_tree.specs.Tree.{Node, atom, list, Nodes, empty, _then_, size, sizes, children, table, tables, lies, liesAll, Holds}
 use Rattle.sise_tree.proofs.TreeLaws.{anded, length-table, length-tables, size-pos, row-holds, holds-words, holds-fits}
 use Rattle.sise_tree.specs.Decision.{isSome, decide}

@@ -3,7 +3,7 @@
 use Prim.Native.Nat.{ℕ, _+_, _-_, min}
 use native.Mathlib.Omega.{arith}
 use mathlib.Core.Path.{_≡_, refl, sym, ap, ap₂, _∙_, subst}
-use mathlib.Core.Bool.{Bool, true, false, false≢true, _&&_}
+use mathlib.Core.Bool.{Bool, true, false, false≢true}
 use mathlib.Core.List.{List, [], _∷_, _++_, append-assoc, map, map-append, nil≢cons, head-eq-of-cons-eq, tail-eq-of-cons-eq}
 use lib.Dec.{leb}
 use lib.ListN.{length, take, drop, length-take, length-drop}
@@ -23,6 +23,7 @@ use Rattle.sise_layout.proofs.Following.{Follows, over, goes}
 use Rattle.sise_serializer.specs.declared.serializer.Phase.the-variants.{Done}
 use Rattle.sise_tree.specs.Descent.{ReadsNode, anAtom, aList, ReadsNodes, theEnd, more}
 use Rattle.sise_tree.specs.Alike.{Tree, leaf, branch, Trees, nothing, _also_, treeOf, treesOf, ReadsAs}
+use Rattle.sise_tree.proofs.TreeLaws.{anded}
 use Rattle.sise_tree.specs.Tree.{Node, atom, list, Nodes, empty, _then_}
 use Rattle.sise_tree.specs.SerializeTree.{largest, nodeCalls, rowCalls, treeCalls, isAccepted, fits}
 
@@ -73,10 +74,6 @@ item-of (beginListCall t) (accepted o) h = refl
 item-of endListCall (accepted o) h = refl
 item-of (finishCall wished) (accepted o) h = refl
 item-of c (refused n) h = absurd (false≢true h)
-
-anded : {C : Type 0} {a b : Bool} → a && b ≡ true → (a ≡ true → b ≡ true → C) → C
-anded {a = true} h k = k refl h
-anded {a = false} h k = absurd (false≢true h)
 
 module _ (s : Style) (room : ℕ) where
   written-items : (cs : List Call) (w : Serializer) → fits s room w cs ≡ true → itemsOf (writes s room w cs .items) ≡ callItems cs

@@ -1,0 +1,15 @@
+// Document 01's examples that are run: rows 11, 12, 14, 15 and 20 to 22 of its table of refusals, its worked table and paths, and its worked writings.
+// Each gives a line, its name and what was answered: a number, or `refused` with the refusal's number and place. The other rows are proved
+// (specs/Rows.antt).
+mod line;
+mod rows;
+mod trees;
+mod writings;
+
+fn main() {
+    let mut out = io::buffer();
+    let at = rows::put_rows(&mut out, 0);
+    let at = trees::put_trees(&mut out, at);
+    let at = writings::put_writings(&mut out, at);
+    lines::flush(&out, at);
+}

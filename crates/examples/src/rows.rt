@@ -1,0 +1,114 @@
+// Rows of the table of refusals.
+use crate::line::put_refused;
+use crate::line::put_value;
+use sise_parser::Answer;
+use sise_parser::Next;
+use sise_parser::Phase;
+use sise_parser::Reader;
+use sise_serializer::Put;
+use sise_serializer::Serializer;
+use sise_tree::Indexed;
+use sise_tree::ParsedTree;
+use sise_tree::index_path;
+use sise_tree::parse_tree;
+
+pub(crate) fn put_put(out: &mut [u8], at: usize, name: &[u8], answer: Put) -> usize {
+    match answer {
+        Put::At(offset) => put_value(out, at, name, offset),
+        _ => put_refused(out, at, name, answer.number(), 0),
+    }
+}
+
+pub(crate) fn put_parsed(out: &mut [u8], at: usize, name: &[u8], answer: ParsedTree) -> usize {
+    match answer {
+        ParsedTree::Nodes(nodes) => put_value(out, at, name, nodes),
+        _ => put_refused(out, at, name, answer.number(), answer.place()),
+    }
+}
+
+pub(crate) fn put_indexed(out: &mut [u8], at: usize, name: &[u8], answer: Indexed) -> usize {
+    match answer {
+        Indexed::Node(index) => put_value(out, at, name, index),
+        _ => put_refused(out, at, name, answer.number(), 0),
+    }
+}
+
+fn put_next(out: &mut [u8], at: usize, name: &[u8], answer: Answer) -> usize {
+    match answer {
+        Answer::Item(_) => put_value(out, at, name, 0),
+        Answer::Refused(error) => put_refused(out, at, name, error.number(), error.place()),
+    }
+}
+
+// Position 3 in a text of one byte.
+fn unsound(out: &mut [u8], at: usize) -> usize {
+    let reader = Reader {
+        position: 3,
+        phase: Phase::Beginning,
+        lists: 0,
+    };
+    let answer = reader.next_item(b"a").answer;
+    put_next(out, at, b"row 11", answer)
+}
+
+// A list that closes where a node is due.
+fn closed(out: &mut [u8], at: usize) -> usize {
+    let mut table = [0u32; 4];
+    let reader = Reader::new().next_item(b"()").reader;
+    let answer = parse_tree(b"()", reader, &mut table).answer;
+    put_parsed(out, at, b"row 12", answer)
+}
+
+fn table_full(out: &mut [u8], at: usize) -> usize {
+    let mut table = [0u32; 3];
+    let answer = parse_tree(b"a", Reader::new(), &mut table).answer;
+    put_parsed(out, at, b"row 14", answer)
+}
+
+// A first word that no node has.
+fn no_tree(out: &mut [u8], at: usize) -> usize {
+    let table = [2u32, 0, 1, 1];
+    put_indexed(out, at, b"row 15", index_path(&table, b"a", &[]))
+}
+
+fn not_finished(out: &mut [u8], at: usize) -> usize {
+    let mut buf = [0u8; 1];
+    let answer = Serializer::new()
+        .finish(b"\n", b"  ", &mut buf, true)
+        .answer;
+    put_put(out, at, b"row 20", answer)
+}
+
+// So many lists begun, one in the other: what the last begin_list answers.
+fn nested(lists: usize) -> Put {
+    let mut buf = [0u8; 256];
+    let mut serializer = Serializer::new();
+    let mut answer = Put::NoRoom;
+    let mut left = lists;
+    while left > 0 {
+        let wrote = serializer.begin_list(b"\n", b"  ", &mut buf, 18446744073709551615);
+        serializer = wrote.serializer;
+        answer = wrote.answer;
+        left -= 1;
+    }
+    answer
+}
+
+fn no_room(out: &mut [u8], at: usize) -> usize {
+    let mut buf = [0u8; 1];
+    let answer = Serializer::new()
+        .put_atom(b"\n", b"  ", &mut buf, b"ab", 0)
+        .answer;
+    put_put(out, at, b"row 22", answer)
+}
+
+pub(crate) fn put_rows(out: &mut [u8], at: usize) -> usize {
+    let at = unsound(out, at);
+    let at = closed(out, at);
+    let at = table_full(out, at);
+    let at = no_tree(out, at);
+    let at = not_finished(out, at);
+    let at = put_put(out, at, b"list 200", nested(200));
+    let at = put_put(out, at, b"row 21", nested(201));
+    no_room(out, at)
+}
