@@ -3,3 +3,4 @@ pub mod DecisionLaws
 pub mod Rows
 pub mod LocalLaws
 pub mod LocalSteps
+pub mod PathLaws

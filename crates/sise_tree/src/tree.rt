@@ -2,7 +2,7 @@
 ghost use mathlib.Core.Path.{_≡_};
 ghost use Prim.Native.Nat.{_^_, _<_};
 ghost use Rattle.sise_tree.specs.Tree.{fillsIn};
-ghost use Rattle.sise_tree.specs.Parts.{goodIn};
+ghost use Rattle.sise_tree.specs.Parts.{goodIn, stepped, MoreThan};
 ghost use Rattle.sise_tree.specs.Decision.{decide, isSome};
 ghost use Rattle.sise_tree.specs.IndexPath.{indexPath};
 ghost use Rattle.sise_tree.specs.Answers.{indexedAs};
@@ -105,22 +105,29 @@ pub fn index_path(table: &[u32], text: &[u8], path: &[u64]) -> Indexed
     let mut at = 0;
     let mut k = 0;
     while k < path.len() {
-        if table[4 * at] != 0 || path[k] >= table[4 * at + 1] as u64 {
+        let index = path[k];
+        if table[4 * at] != 0 {
             return Indexed::NoSuchNode;
         }
-        at = child(table, at, path[k]);
+        if index >= wide(table[4 * at + 1]) as u64 {
+            return Indexed::NoSuchNode;
+        }
+        at = child(table, at + 1, index);
         k += 1;
     }
     Indexed::Node(at)
 }
 
-// The child of the list `at` with this index, which it has.
-fn child(table: &[u32], at: usize, index: u64) -> usize {
-    let mut i = at + 1;
+// The node that comes after `index` nodes, from node `first` on.
+fn child(table: &[u32], first: usize, index: u64) -> usize
+    requires { ⌜ MoreThan (now table) index first ⌝ }
+    ensures { λ r. ⌜ r ≡ stepped (now (table .entry)) index first ⌝ }
+{
+    let mut at = first;
     let mut left = index;
     while left > 0 {
-        i += wide(table[4 * i + 3]);
+        at += wide(table[4 * at + 3]);
         left -= 1;
     }
-    i
+    at
 }
