@@ -5,7 +5,7 @@ ghost use Rattle.sise_tree.specs.Tree.{fillsIn};
 ghost use Rattle.sise_tree.specs.Parts.{goodIn, stepped, MoreThan};
 ghost use Rattle.sise_tree.specs.Decision.{decide, isSome};
 ghost use Rattle.sise_tree.specs.IndexPath.{indexPath};
-ghost use Rattle.sise_tree.specs.Answers.{indexedAs};
+ghost use Rattle.sise_tree.specs.Answers.{indexedAs, numberOf};
 
 // The longest text of a tree call.
 pub const LONGEST: usize = 16777216;
@@ -16,6 +16,20 @@ pub enum Indexed {
     TextTooLong,
     NotATree,
     NoSuchNode,
+}
+
+impl Indexed {
+    // Document 01's number, 0 for a node.
+    pub fn number(self) -> u32
+        ensures { λ r. ⌜ r ≡ numberOf (indexedAs self) ⌝ }
+    {
+        match self {
+            Indexed::Node(_) => 0,
+            Indexed::TextTooLong => 13,
+            Indexed::NotATree => 15,
+            Indexed::NoSuchNode => 16,
+        }
+    }
 }
 
 pub fn wide(x: u32) -> usize
