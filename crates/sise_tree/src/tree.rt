@@ -1,6 +1,7 @@
 // Tables: whether one holds a tree, and the node at the end of a path.
 ghost use mathlib.Core.Path.{_≡_};
-ghost use Prim.Native.Nat.{_^_, _<_};
+ghost use Prim.Native.Nat.{_+_, _*_, _^_, _<_};
+ghost use lib.ListN.{length, getD};
 ghost use Rattle.sise_tree.specs.Tree.{fillsIn};
 ghost use Rattle.sise_tree.specs.Parts.{goodIn, stepped, MoreThan};
 ghost use Rattle.sise_tree.specs.Decision.{decide, isSome};
@@ -39,6 +40,15 @@ pub fn wide(x: u32) -> usize
     x as usize
 }
 
+// Word `j` of node `i`, the first of which is word 0.
+fn word(table: &[u32], i: usize, j: usize) -> usize
+    requires { ⌜ 4 * i + j < length (now table) ⌝ }
+    ensures same { λ r. ⌜ r ≡ getD (now (table .entry)) (4 * i + j) 0 ⌝ }
+    ensures small { λ r. ⌜ r < 2 ^ 32 ⌝ }
+{
+    wide(table[4 * i + j])
+}
+
 // Whether the spans of `children` nodes, from node `from` on, end exactly at node `end`, which is in the table or just past it.
 fn fills(table: &[u32], children: usize, from: usize, end: usize) -> bool
     ensures { λ r. ⌜ r ≡ fillsIn (now (table .entry)) children from end ⌝ }
@@ -52,7 +62,7 @@ fn fills(table: &[u32], children: usize, from: usize, end: usize) -> bool
         if at >= end {
             return false;
         }
-        let span = wide(table[4 * at + 3]);
+        let span = word(table, at, 3);
         if span == 0 {
             return false;
         }
@@ -70,9 +80,9 @@ fn node_holds(text_len: usize, table: &[u32], i: usize) -> bool
         return false;
     }
     let kind = table[4 * i];
-    let first = wide(table[4 * i + 1]);
-    let second = wide(table[4 * i + 2]);
-    let span = wide(table[4 * i + 3]);
+    let first = word(table, i, 1);
+    let second = word(table, i, 2);
+    let span = word(table, i, 3);
     match kind {
         0 => second == 0 && fills(table, first, i + 1, i + span),
         1 => span == 1 && first + second <= text_len,
@@ -89,7 +99,7 @@ pub fn holds_tree(text_len: usize, table: &[u32]) -> bool
     if nodes == 0 {
         return false;
     }
-    let end = wide(table[3]);
+    let end = word(table, 0, 3);
     if end == 0 {
         return false;
     }
@@ -123,7 +133,7 @@ pub fn index_path(table: &[u32], text: &[u8], path: &[u64]) -> Indexed
         if table[4 * at] != 0 {
             return Indexed::NoSuchNode;
         }
-        if index >= wide(table[4 * at + 1]) as u64 {
+        if index >= word(table, at, 1) as u64 {
             return Indexed::NoSuchNode;
         }
         at = child(table, at + 1, index);
@@ -140,7 +150,7 @@ fn child(table: &[u32], first: usize, index: u64) -> usize
     let mut at = first;
     let mut left = index;
     while left > 0 {
-        at += wide(table[4 * at + 3]);
+        at += word(table, at, 3);
         left -= 1;
     }
     at

@@ -16,23 +16,11 @@ abbrev μ-loop : tie.MeasureT-loop
 loop-holds : tie.Need-loop-holds Inv-loop μ-loop
 loop-holds c = (c .before .pre, refl)
 
-mul-wide : tie.Need-mul-wide Inv-loop μ-loop
-mul-wide c = let (within, next) = more-within (c .before .loop .inv .0) in search needs
-
-add-wide : tie.Need-add-wide Inv-loop μ-loop
-add-wide c = let (within, next) = more-within (c .before .loop .inv .0) in search needs
-
-mul-wide-2 : tie.Need-mul-wide-2 Inv-loop μ-loop
-mul-wide-2 c = let (within, next) = more-within (c .before .loop .inv .0) in search needs
-
-shared-slice-read-wide : tie.Need-shared-slice-read-wide Inv-loop μ-loop
-shared-slice-read-wide c = let (within, next) = more-within (c .before .before .loop .inv .0) in search needs
-
-wide-requires : tie.Need-wide-requires Inv-loop μ-loop
-wide-requires c κs = search needs
+word-requires : tie.Need-word-requires Inv-loop μ-loop
+word-requires c κs = let (within, next) = more-within (c .before .loop .inv .0) in search needs
 
 add-at : tie.Need-add-at Inv-loop μ-loop
-add-at c = let (within, next) = more-within (c .before .before .before .loop .inv .0) in search needs
+add-at c = let (within, next) = more-within (c .before .before .loop .inv .0) in search needs
 
 sub-left : tie.Need-sub-left Inv-loop μ-loop
 sub-left c = search needs
@@ -42,28 +30,13 @@ loop-less c = search needs
 
 loop-again : tie.Need-loop-again Inv-loop μ-loop
 loop-again c =
-    let l = c .before .before .before .loop in
-    let test = c .before .before .loop-test .taken in
-    let read = c .wide .ensures .0 in
-    (more-step (l .inv .0) read test, stepped-on _ _ _ read test ∙ l .inv .1)
+    let (more, same) = c .before .before .loop .inv in
+    let test = c .before .loop-test .taken in
+    let read = c .word .ensures .0 in
+    (more-step more read test, stepped-on _ _ _ read test ∙ same)
 
 returns : tie.Need-returns Inv-loop μ-loop
 returns c = sym (stepped-none _ _ _ (c .loop-test .left)) ∙ c .before .loop .inv .1
 
 pub child-spec : {M : Type 1} → statement M
-child-spec =
-    tie.close
-    (tie.spec
-    Inv-loop
-    μ-loop
-    loop-holds
-    mul-wide
-    add-wide
-    mul-wide-2
-    shared-slice-read-wide
-    wide-requires
-    add-at
-    sub-left
-    loop-less
-    loop-again
-    returns)
+child-spec = tie.close (tie.spec Inv-loop μ-loop loop-holds word-requires add-at sub-left loop-less loop-again returns)
