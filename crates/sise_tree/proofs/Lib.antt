@@ -4,3 +4,4 @@ pub mod Rows
 pub mod LocalLaws
 pub mod LocalSteps
 pub mod ReadAgain
+pub mod PathLaws

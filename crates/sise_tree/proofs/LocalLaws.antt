@@ -5,7 +5,7 @@ use native.Mathlib.Numerals.{one-add}
 use native.Mathlib.Nat.{add-zero}
 use native.Mathlib.Omega.{arith}
 use mathlib.Core.Path.{_≡_, refl, sym, ap, _∙_}
-use mathlib.Core.Bool.{true, false, _&&_, false≢true}
+use mathlib.Core.Bool.{true, false, false≢true}
 use mathlib.Core.Option.{Option, none, some}
 use mathlib.Core.List.{List, _∷_, _++_, append-assoc}
 use lib.Dec.{leb, ltb, eqb}
@@ -20,7 +20,7 @@ use Rattle.sise_tree.proofs.DecisionLaws.{decide-sound, decide-complete
 use Rattle.sise_tree.proofs.Rows.{four}
 use Rattle.sise_tree.specs.Tree.{kind, first, second, span, fills, fillsIn, good, HoldsTree}
 
-fills-le : (words : List ℕ) (c i e : ℕ) → fills words c i e ≡ true → i ≤ e
+pub fills-le : (words : List ℕ) (c i e : ℕ) → fills words c i e ≡ true → i ≤ e
 unfolding fills
 fills-le words zero i e h = omega (arith, eqb-true i e h)
 fills-le words (suc c) i e h = let lt = and-first (ltb i e) _ h in omega (arith, ltb-true i e lt)

@@ -1,16 +1,14 @@
--- A node's four words in a table: read, and written.
+-- A node of a table: its four words, and the words after it.
 -- Assumes nothing.
 use Prim.Native.Nat.{ℕ, suc, _+_, _*_, _≤_}
-use native.Mathlib.Nat.{zero-add, suc-add}
 use native.Mathlib.Numerals.{add-one, add-two, add-three, add-four}
 use native.Mathlib.Omega.{arith}
-use mathlib.Core.Path.{_≡_, sym, ap, _∙_}
-use mathlib.Core.List.{List, [], _∷_, _++_}
-use lib.ListN.{length, getD, take, drop, set, take-append-drop}
-use lib.Seq.{drop-cons, set-at, getD-append-add, length-take-le}
+use mathlib.Core.Path.{_≡_}
+use mathlib.Core.List.{List, _∷_}
+use lib.ListN.{length, getD, drop}
+use lib.Seq.{drop-cons}
 use Rattle.sise_tree.specs.Tree.{kind, first, second, span}
 
--- a node's four words, and the words after it
 pub four :
     (words : List ℕ) (a : ℕ) → 4 * (a + 1) ≤ length words
     → drop (4 * a) words ≡ kind words a ∷ first words a ∷ second words a ∷ span words a ∷ drop (4 * (a + 1)) words

@@ -41,3 +41,8 @@ putAs InvalidAtom = refusedWith 17
 putAs WritingFinished = refusedWith 19
 putAs TooDeep = refusedWith 21
 putAs NoRoom = refusedWith 22
+
+-- document 01's number of a refusal, 0 for none
+abbrev pub numberOf : Answer → ℕ
+numberOf (answered n) = 0
+numberOf (refused r) = r .number

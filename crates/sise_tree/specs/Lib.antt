@@ -8,3 +8,4 @@ pub mod Parts
 pub mod Descent
 pub mod Alike
 pub mod Rows
+pub mod TableExamples

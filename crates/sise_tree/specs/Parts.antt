@@ -1,12 +1,25 @@
 -- What the private functions of the trees do.
 -- Assumes nothing.
-use Prim.Native.Nat.{ℕ, _/_}
-use mathlib.Core.Bool.{Bool, _&&_}
+use Prim.Native.Nat.{ℕ, zero, suc, _+_, _/_, _<_}
+use mathlib.Core.Path.{_≡_}
+use mathlib.Core.Bool.{Bool, true, _&&_}
 use mathlib.Core.List.{List}
 use lib.Dec.{ltb}
 use lib.ListN.{length}
-use Rattle.sise_tree.specs.Tree.{good}
+use Rattle.sise_tree.specs.Tree.{span, fillsIn, good}
 
 -- node i is in the table, and good
 unfoldable pub goodIn : ℕ → List ℕ → ℕ → Bool
 goodIn l words i = ltb i (length words / 4) && good l words i
+
+-- the index of the node that comes after so many nodes, from node i on
+unfoldable pub stepped : List ℕ → ℕ → ℕ → ℕ
+stepped words zero i = i
+stepped words (suc k) i = stepped words k (i + span words i)
+
+-- from node i on there are more than k nodes, whose spans end in the table
+pub record MoreThan (words : List ℕ) (k i : ℕ) : Type 0 where
+  pub count : ℕ
+  pub «end» : ℕ
+  pub below : k < count
+  pub filled : fillsIn words count i «end» ≡ true

@@ -1,11 +1,12 @@
 // Tables: whether one holds a tree, and the node at the end of a path.
 ghost use mathlib.Core.Path.{_≡_};
-ghost use Prim.Native.Nat.{_^_, _<_};
+ghost use Prim.Native.Nat.{_+_, _*_, _^_, _<_};
+ghost use lib.ListN.{length, getD};
 ghost use Rattle.sise_tree.specs.Tree.{fillsIn};
-ghost use Rattle.sise_tree.specs.Parts.{goodIn};
+ghost use Rattle.sise_tree.specs.Parts.{goodIn, stepped, MoreThan};
 ghost use Rattle.sise_tree.specs.Decision.{decide, isSome};
 ghost use Rattle.sise_tree.specs.IndexPath.{indexPath};
-ghost use Rattle.sise_tree.specs.Answers.{indexedAs};
+ghost use Rattle.sise_tree.specs.Answers.{indexedAs, numberOf};
 
 // The longest text of a tree call.
 pub const LONGEST: usize = 16777216;
@@ -18,11 +19,34 @@ pub enum Indexed {
     NoSuchNode,
 }
 
+impl Indexed {
+    // Document 01's number, 0 for a node.
+    pub fn number(self) -> u32
+        ensures { λ r. ⌜ r ≡ numberOf (indexedAs self) ⌝ }
+    {
+        match self {
+            Indexed::Node(_) => 0,
+            Indexed::TextTooLong => 13,
+            Indexed::NotATree => 15,
+            Indexed::NoSuchNode => 16,
+        }
+    }
+}
+
 pub fn wide(x: u32) -> usize
     ensures same { λ r. ⌜ r ≡ x ⌝ }
     ensures small { λ r. ⌜ r < 2 ^ 32 ⌝ }
 {
     x as usize
+}
+
+// Word `j` of node `i`, the first of which is word 0.
+fn word(table: &[u32], i: usize, j: usize) -> usize
+    requires { ⌜ 4 * i + j < length (now table) ⌝ }
+    ensures same { λ r. ⌜ r ≡ getD (now (table .entry)) (4 * i + j) 0 ⌝ }
+    ensures small { λ r. ⌜ r < 2 ^ 32 ⌝ }
+{
+    wide(table[4 * i + j])
 }
 
 // Whether the spans of `children` nodes, from node `from` on, end exactly at node `end`, which is in the table or just past it.
@@ -38,7 +62,7 @@ fn fills(table: &[u32], children: usize, from: usize, end: usize) -> bool
         if at >= end {
             return false;
         }
-        let span = wide(table[4 * at + 3]);
+        let span = word(table, at, 3);
         if span == 0 {
             return false;
         }
@@ -56,9 +80,9 @@ fn node_holds(text_len: usize, table: &[u32], i: usize) -> bool
         return false;
     }
     let kind = table[4 * i];
-    let first = wide(table[4 * i + 1]);
-    let second = wide(table[4 * i + 2]);
-    let span = wide(table[4 * i + 3]);
+    let first = word(table, i, 1);
+    let second = word(table, i, 2);
+    let span = word(table, i, 3);
     match kind {
         0 => second == 0 && fills(table, first, i + 1, i + span),
         1 => span == 1 && first + second <= text_len,
@@ -75,7 +99,7 @@ pub fn holds_tree(text_len: usize, table: &[u32]) -> bool
     if nodes == 0 {
         return false;
     }
-    let end = wide(table[3]);
+    let end = word(table, 0, 3);
     if end == 0 {
         return false;
     }
@@ -105,22 +129,29 @@ pub fn index_path(table: &[u32], text: &[u8], path: &[u64]) -> Indexed
     let mut at = 0;
     let mut k = 0;
     while k < path.len() {
-        if table[4 * at] != 0 || path[k] >= table[4 * at + 1] as u64 {
+        let index = path[k];
+        if table[4 * at] != 0 {
             return Indexed::NoSuchNode;
         }
-        at = child(table, at, path[k]);
+        if index >= word(table, at, 1) as u64 {
+            return Indexed::NoSuchNode;
+        }
+        at = child(table, at + 1, index);
         k += 1;
     }
     Indexed::Node(at)
 }
 
-// The child of the list `at` with this index, which it has.
-fn child(table: &[u32], at: usize, index: u64) -> usize {
-    let mut i = at + 1;
+// The node that comes after `index` nodes, from node `first` on.
+fn child(table: &[u32], first: usize, index: u64) -> usize
+    requires { ⌜ MoreThan (now table) index first ⌝ }
+    ensures { λ r. ⌜ r ≡ stepped (now (table .entry)) index first ⌝ }
+{
+    let mut at = first;
     let mut left = index;
     while left > 0 {
-        i += wide(table[4 * i + 3]);
+        at += word(table, at, 3);
         left -= 1;
     }
-    i
+    at
 }

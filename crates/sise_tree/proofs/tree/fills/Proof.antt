@@ -1,7 +1,6 @@
 -- Before each turn, what is left to step over has the whole's answer.
 -- Assumes nothing.
 use Prim.Native.Nat.{_≤_, _/_}
-use native.Mathlib.Omega.{arith}
 use mathlib.Core.Path.{_≡_, refl, sym, _∙_}
 use lib.ListN.{length}
 use borrow.Author.Needs.{needs}
@@ -23,66 +22,40 @@ loop-holds : tie.Need-loop-holds Inv-loop μ-loop
 loop-holds c = (c .if1 .left, refl)
 
 returns-2 : tie.Need-returns-2 Inv-loop μ-loop
-returns-2 c = sym (sym (c .before .before .loop .inv .1) ∙ fills-past _ _ (c .before .before .loop .inv .0) _ _ (c .before .loop-test .taken) (c .if2 .taken))
+returns-2 c =
+    let (within, same) = c .before .before .loop .inv in
+    sym (sym same ∙ fills-past _ _ within _ _ (c .before .loop-test .taken) (c .if2 .taken))
 
-mul-wide : tie.Need-mul-wide Inv-loop μ-loop
-mul-wide c = omega arith
-
-add-wide : tie.Need-add-wide Inv-loop μ-loop
-add-wide c = omega arith
-
-mul-wide-2 : tie.Need-mul-wide-2 Inv-loop μ-loop
-mul-wide-2 c = omega arith
-
-shared-slice-read-wide : tie.Need-shared-slice-read-wide Inv-loop μ-loop
-shared-slice-read-wide c = omega arith
-
-wide-requires : tie.Need-wide-requires Inv-loop μ-loop
-wide-requires c κs = search needs
+word-requires : tie.Need-word-requires Inv-loop μ-loop
+word-requires c κs = search needs
 
 returns-3 : tie.Need-returns-3 Inv-loop μ-loop
 returns-3 c =
-    let l = c .before .before .before .before .before .loop in
-    let test = c .before .before .before .before .loop-test .taken in
-    sym (sym (l .inv .1) ∙ fills-stuck _ _ (l .inv .0) _ _ (c .before .wide .ensures .0) test (c .before .before .before .if2 .left) (c .if3 .taken))
+    let test = c .before .before .before in
+    let (within, same) = test .before .loop .inv in
+    sym (sym same ∙ fills-stuck _ _ within _ _ (c .before .word .ensures .0) (test .loop-test .taken) (c .before .before .if2 .left) (c .if3 .taken))
 
 add-at : tie.Need-add-at Inv-loop μ-loop
-add-at c = omega arith
+add-at c = search needs
 
 sub-left : tie.Need-sub-left Inv-loop μ-loop
-sub-left c = omega arith
+sub-left c = search needs
 
 loop-less : tie.Need-loop-less Inv-loop μ-loop
-loop-less c = omega arith
+loop-less c = search needs
 
 loop-again : tie.Need-loop-again Inv-loop μ-loop
 loop-again c =
-    let l = c .before .before .before .before .before .loop in
-    let test = c .before .before .before .before .loop-test .taken in
-    (l .inv .0, fills-step _ _ (l .inv .0) _ _ (c .before .wide .ensures .0) test (c .before .before .before .if2 .left) (c .if3 .left) ∙ l .inv .1)
+    let test = c .before .before .before in
+    let (within, same) = test .before .loop .inv in
+    (within, fills-step _ _ within _ _ (c .before .word .ensures .0) (test .loop-test .taken) (c .before .before .if2 .left) (c .if3 .left) ∙ same)
 
 returns-4 : tie.Need-returns-4 Inv-loop μ-loop
 returns-4 c =
-    let l = c .before .loop in
-    sym (fills-done _ _ (l .inv .0) _ _ (c .loop-test .left)) ∙ l .inv .1
+    let (within, same) = c .before .loop .inv in
+    sym (fills-done _ _ within _ _ (c .loop-test .left)) ∙ same
 
 pub fills-spec : {M : Type 1} → statement M
 fills-spec =
     tie.close
-    (tie.spec
-    Inv-loop
-    μ-loop
-    returns
-    loop-holds
-    returns-2
-    mul-wide
-    add-wide
-    mul-wide-2
-    shared-slice-read-wide
-    wide-requires
-    returns-3
-    add-at
-    sub-left
-    loop-less
-    loop-again
-    returns-4)
+    (tie.spec Inv-loop μ-loop returns loop-holds returns-2 word-requires returns-3 add-at sub-left loop-less loop-again returns-4)
