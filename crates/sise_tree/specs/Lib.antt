@@ -5,3 +5,4 @@ pub mod ParseTree
 pub mod IndexPath
 pub mod SerializeTree
 pub mod Parts
+pub mod Filling

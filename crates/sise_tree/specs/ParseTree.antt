@@ -57,22 +57,21 @@ pub data ReadNode : Type 0 where
   got : Node → Reader → ReadNode
   stopped : Refusal → Reader → ReadNode
 
-unfoldable mutual
-  -- item after item, with these lists open; the first number bounds the items
-  pub readFrom : ℕ → List ℕ → Reader → Frames → ReadNode
-  readFrom zero text r f = stopped (refusal 11 0 0) r
-  readFrom (suc k) text r f = readNext k text (nextItem text r .reader) f (nextItem text r .answer)
+-- what a stage, which a call that left the record r came to, makes of the reading; 12: "a list closes where a node is due; place"
+unfoldable pub readStage : (Frames → ReadNode) → Reader → Stage → ReadNode
+readStage on r (inside f) = on f
+readStage on r (whole n) = got n r
+readStage on r (closes p) = stopped (refusal 12 p 0) r
 
-  -- "a text refusal leaves the reader as the inner next_item did"
-  pub readNext : ℕ → List ℕ → Reader → Frames → reader.Answer → ReadNode
-  readNext k text r f (reader.Answer.item i) = readStage k text r (turn f i)
-  readNext k text r f (reader.Answer.refused e) = stopped e r
+-- what the call's answer does; "a text refusal leaves the reader as the inner next_item did"
+unfoldable pub readAnswer : (Frames → ReadNode) → Reader → Frames → reader.Answer → ReadNode
+readAnswer on r f (reader.Answer.item i) = readStage on r (turn f i)
+readAnswer on r f (reader.Answer.refused e) = stopped e r
 
-  -- 12: "a list closes where a node is due; place"
-  pub readStage : ℕ → List ℕ → Reader → Stage → ReadNode
-  readStage k text r (inside f) = readFrom k text r f
-  readStage k text r (whole n) = got n r
-  readStage k text r (closes p) = stopped (refusal 12 p 0) r
+-- item after item, with these lists open; the first number bounds the items
+unfoldable pub readFrom : ℕ → List ℕ → Reader → Frames → ReadNode
+readFrom zero text r f = stopped (refusal 11 0 0) r
+readFrom (suc k) text r f = let x = nextItem text r in readAnswer (readFrom k text (x .reader)) (x .reader) f (x .answer)
 
 -- "A reader over n bytes gives at most n items", so one call more is enough
 unfoldable pub readNode : List ℕ → Reader → ReadNode
