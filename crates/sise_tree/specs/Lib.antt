@@ -6,3 +6,4 @@ pub mod IndexPath
 pub mod SerializeTree
 pub mod Parts
 pub mod Filling
+pub mod Descent

@@ -1,0 +1,5 @@
+pub mod TreeLaws
+pub mod Rows
+pub mod ReadSteps
+pub mod FillingLaws
+pub mod FillingParts
