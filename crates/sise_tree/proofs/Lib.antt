@@ -3,3 +3,4 @@ pub mod Rows
 pub mod ReadSteps
 pub mod FillingLaws
 pub mod FillingParts
+pub mod Counting

@@ -12,6 +12,9 @@ use Rattle.sise_util.proofs.Ranges.{split}
 use Rattle.sise_parser.specs.Refusals.{Refusal}
 use Rattle.sise_parser.specs.Lexer.{Lexed, found, bad, eof, opening, closing, atom, between}
 use Rattle.sise_parser.specs.Reader.{reader, listsFit, isSound, Answer, item, refused, Next, next, refusedWith, closed, tokenAt, inBeginning, inParsing, nextItem}
+use Rattle.sise_parser.specs.Meaning.{answerAs, nextAs}
+use Rattle.sise_parser.specs.declared.reader.Answer.{Answer as ReaderAnswer}
+use Rattle.sise_parser.specs.declared.reader.Next.{Next as ReaderNext}
 use Rattle.sise_parser.specs.declared.reader.Phase.{Phase}
 use Rattle.sise_parser.specs.declared.reader.Phase.the-variants.{Beginning, Parsing, Finishing}
 use Rattle.sise_parser.specs.declared.reader.Reader.{Reader}
@@ -172,3 +175,7 @@ pub read-refused :
     (text : List ℕ) (r : Reader) (f : Frames) {q : Reader} {x : Refusal} → nextItem text r ≡ next q (refused x) → readOn text r f ≡ stopped x q
 unfolding readFrom readAnswer
 read-refused text r f e = ap (λ (x : Next). readAnswer (readFrom (length text) text (x .reader)) (x .reader) f (x .answer)) e
+
+-- what the code's call says, where its answer is known
+pub called : (x : ReaderNext) {a : ReaderAnswer} {y : Next} → nextAs x ≡ y → x .answer ≡ a → y ≡ next (x .reader) (answerAs a)
+called x e d = sym e ∙ ap (λ (b : ReaderAnswer). next (x .reader) (answerAs b)) d
