@@ -4,3 +4,4 @@ pub mod ReadSteps
 pub mod FillingLaws
 pub mod FillingParts
 pub mod Counting
+pub mod FillingTurns
