@@ -5,3 +5,5 @@ pub mod FillingLaws
 pub mod FillingParts
 pub mod Counting
 pub mod FillingTurns
+pub mod Descent
+pub mod ParseLaws

@@ -23,6 +23,8 @@ use Rattle.sise_parser.specs.declared.reader.ParsedItem.the-variants.{Atom, Lis
 use Rattle.sise_parser.proofs.Placed.{Placed, token-placed}
 use Rattle.sise_parser.proofs.Calls.{Sound, sound-parts, next-unsound, next-finishing, next-beginning, next-parsing}
 use Rattle.sise_parser.proofs.ReaderLaws.{isItem, stays-sound, item-moves}
+use Rattle.sise_tree.specs.Tree.{Node}
+use Rattle.sise_tree.specs.Filling.{readerOf}
 use Rattle.sise_tree.specs.ParseTree.{Frames, top, Stage, inside, whole, closes, turn, ReadNode, got, stopped, readStage, readAnswer, readFrom, readNode}
 
 abbrev begins : Phase → Bool
@@ -179,3 +181,47 @@ read-refused text r f e = ap (λ (x : Next). readAnswer (readFrom (length text) 
 -- what the code's call says, where its answer is known
 pub called : (x : ReaderNext) {a : ReaderAnswer} {y : Next} → nextAs x ≡ y → x .answer ≡ a → y ≡ next (x .reader) (answerAs a)
 called x e d = sym e ∙ ap (λ (b : ReaderAnswer). next (x .reader) (answerAs b)) d
+
+-- ---- a reading that comes to a node
+
+abbrev isGot : ReadNode → Bool
+isGot (got n q) = true
+isGot (stopped e q) = false
+
+pub stopped-got : {A : Type 0} {e : Refusal} {r q : Reader} {n : Node} → stopped e r ≡ got n q → A
+stopped-got h = absurd (false≢true (ap isGot h))
+
+abbrev nodeIn : Node → ReadNode → Node
+nodeIn m (got n q) = n
+nodeIn m (stopped e q) = m
+
+-- a stage on the way is the node, or it is read on from there
+stage-got :
+    {C : Type 0} {on : Frames → ReadNode} {r q : Reader} {n : Node} (s : Stage) → readStage on r s ≡ got n q
+    → ((f : Frames) → s ≡ inside f → on f ≡ got n q → C) → (s ≡ whole n → r ≡ q → C) → C
+unfolding readStage
+stage-got (inside f) h k j = k f refl h
+stage-got (whole m) h k j = j (ap (λ (x : ReadNode). whole (nodeIn m x)) h) (ap readerOf h)
+stage-got (closes p) h k j = stopped-got h
+
+answer-got :
+    {C : Type 0} (on : Frames → ReadNode) (r : Reader) {q : Reader} {n : Node} (f : Frames) (a : Answer) → readAnswer on r f a ≡ got n q
+    → ((i : ParsedItem) → a ≡ item i → readStage on r (turn f i) ≡ got n q → C) → C
+unfolding readAnswer
+answer-got on r f (item i) h k = k i refl h
+answer-got on r f (refused e) h k = stopped-got h
+
+-- what an item makes of the open lists leads to the node; P holds of the lists and the record where a reading begins that comes to n and leaves q
+pub record Leads (text : List ℕ) (n : Node) (q : Reader) (P : Frames → Reader → Type 0) : Type 0 where
+  pub ended : (f : Frames) (r : Reader) (i : ParsedItem) → nextItem text r ≡ next q (item i) → turn f i ≡ whole n → P f r
+  pub went : (f g : Frames) (r s : Reader) (i : ParsedItem) → nextItem text r ≡ next s (item i) → turn f i ≡ inside g → P g s → P f r
+
+pub leads : (text : List ℕ) {n : Node} {q : Reader} {P : Frames → Reader → Type 0} → Leads text n q P → (k : ℕ) (f : Frames) (r : Reader) → readFrom k text r f ≡ got n q → P f r
+unfolding readFrom
+leads text l zero f r h = stopped-got h
+leads text {q = q} l (suc k) f r h =
+    let s = nextItem text r .reader in
+    answer-got (readFrom k text s) s f (nextItem text r .answer) h λ i a t.
+    stage-got (turn f i) t
+    (λ g w more. l .went f g r s i (ap (next s) a) w (leads text l k g s more))
+    (λ w z. l .ended f r i (ap (next s) a ∙ ap (λ (x : Reader). next x (item i)) z) w)

@@ -1,0 +1,2 @@
+-- What a node read is
+-- Assumes nothing.
