@@ -27,7 +27,7 @@ use Rattle.sise_tree.specs.Tree.{Node}
 use Rattle.sise_tree.specs.Filling.{readerOf}
 use Rattle.sise_tree.specs.ParseTree.{Frames, top, Stage, inside, whole, closes, turn, ReadNode, got, stopped, readStage, readAnswer, readFrom, readNode}
 
-abbrev begins : Phase → Bool
+abbrev pub begins : Phase → Bool
 begins Beginning = true
 begins Parsing = false
 begins Finishing = false
