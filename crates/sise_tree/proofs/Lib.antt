@@ -7,3 +7,4 @@ pub mod Counting
 pub mod FillingTurns
 pub mod Descent
 pub mod ParseLaws
+pub mod FillingLoop

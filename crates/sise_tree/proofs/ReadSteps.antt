@@ -191,12 +191,12 @@ isGot (stopped e q) = false
 pub stopped-got : {A : Type 0} {e : Refusal} {r q : Reader} {n : Node} → stopped e r ≡ got n q → A
 stopped-got h = absurd (false≢true (ap isGot h))
 
-abbrev nodeIn : Node → ReadNode → Node
+abbrev pub nodeIn : Node → ReadNode → Node
 nodeIn m (got n q) = n
 nodeIn m (stopped e q) = m
 
 -- a stage on the way is the node, or it is read on from there
-stage-got :
+pub stage-got :
     {C : Type 0} {on : Frames → ReadNode} {r q : Reader} {n : Node} (s : Stage) → readStage on r s ≡ got n q
     → ((f : Frames) → s ≡ inside f → on f ≡ got n q → C) → (s ≡ whole n → r ≡ q → C) → C
 unfolding readStage
