@@ -5,3 +5,11 @@ pub mod LocalLaws
 pub mod LocalSteps
 pub mod ReadAgain
 pub mod PathLaws
+pub mod ReadSteps
+pub mod FillingLaws
+pub mod FillingParts
+pub mod Counting
+pub mod FillingTurns
+pub mod Descent
+pub mod ParseLaws
+pub mod FillingLoop

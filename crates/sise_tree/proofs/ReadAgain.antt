@@ -21,7 +21,7 @@ use Rattle.sise_layout.proofs.ReadBack.{follows}
 use Rattle.sise_layout.proofs.Buffers.{same-text}
 use Rattle.sise_layout.proofs.Following.{Follows, over, goes}
 use Rattle.sise_serializer.specs.declared.serializer.Phase.the-variants.{Done}
-use Rattle.sise_tree.specs.Descent.{ReadsNode, anAtom, aList, ReadsNodes, theEnd, more}
+use Rattle.sise_tree.specs.Descent.{ReadsNode, one, many, ReadsNodes, none, more}
 use Rattle.sise_tree.specs.Alike.{Tree, leaf, branch, Trees, nothing, _also_, treeOf, treesOf, ReadsAs}
 use Rattle.sise_tree.proofs.TreeLaws.{anded}
 use Rattle.sise_tree.specs.Tree.{Node, atom, list, Nodes, empty, _then_}
@@ -153,34 +153,23 @@ module _ (text from : List ℕ) where
     node = atom (t .offset) (length (partOf from p n));
     reader = t .reader;
     left = t .left;
-    reads = anAtom (t .gives);
+    reads = one (t .gives);
     same = ap leaf (part-stands text (partOf from p n) (t .offset) (t .stands));
     follow = t .follow;
     items = t .items;
   }
 
-  list-spelt : {r : Reader} {c : Nodes} {rest : List Item} (t : Took r listStart (rowItems from c ++ (listEnd ∷ rest))) → SpeltAll (t .reader) c rest → Spelt r (list c) rest
+  list-spelt : {r : Reader} {c : Nodes} {rest : List Item} (t : Took r listStart (rowItems from c ++ (listEnd ∷ rest))) (a : SpeltAll (t .reader) c (listEnd ∷ rest))
+      → Took (a .reader) listEnd rest → Spelt r (list c) rest
   unfolding asRead treeOf
-  list-spelt t a = record {
+  list-spelt t a e = record {
     node = list (a .nodes);
-    reader = a .reader;
-    left = a .left;
-    reads = aList (t .gives) (a .reads);
+    reader = e .reader;
+    left = e .left;
+    reads = many (t .gives) (a .reads) (e .gives);
     same = ap branch (a .same);
-    follow = a .follow;
-    items = a .items;
-  }
-
-  end-spelt : {r : Reader} {rest : List Item} → Took r listEnd rest → SpeltAll r empty rest
-  unfolding asRead treesOf
-  end-spelt t = record {
-    nodes = empty;
-    reader = t .reader;
-    left = t .left;
-    reads = theEnd (t .gives);
-    same = refl;
-    follow = t .follow;
-    items = t .items;
+    follow = e .follow;
+    items = e .items;
   }
 
   then-spelt : {r : Reader} {n : Node} {c : Nodes} {is rest : List Item} (t : Spelt r n is) → SpeltAll (t .reader) c rest → SpeltAll r (n then c) rest
@@ -196,18 +185,19 @@ module _ (text from : List ℕ) where
   }
 
   mutual
-    unfolding nodeItems rowItems
+    unfolding nodeItems rowItems treesOf
 
     spelt : (n : Node) {r : Reader} {ps : List Placed} (rest : List Item) → Follows text r ps → itemsOf ps ≡ nodeItems from n ++ rest → Spelt r n rest
     spelt (atom p k) rest t e = atom-spelt (took t e)
     spelt (list c) rest t e =
         let d = took t (e ∙ ap (λ (l : List Item). listStart ∷ l) (append-assoc (rowItems from c) (listEnd ∷ []) rest)) in
-        list-spelt d (spelt-all c rest (d .follow) (d .items))
+        let a = spelt-all c (listEnd ∷ rest) (d .follow) (d .items) in
+        list-spelt d a (took (a .follow) (a .items))
 
-    spelt-all : (c : Nodes) {r : Reader} {ps : List Placed} (rest : List Item) → Follows text r ps → itemsOf ps ≡ rowItems from c ++ (listEnd ∷ rest) → SpeltAll r c rest
-    spelt-all empty rest t e = end-spelt (took t e)
+    spelt-all : (c : Nodes) {r : Reader} {ps : List Placed} (rest : List Item) → Follows text r ps → itemsOf ps ≡ rowItems from c ++ rest → SpeltAll r c rest
+    spelt-all empty rest t e = record { nodes = empty; reader = _; left = _; reads = none; same = refl; follow = t; items = e }
     spelt-all (n then c) rest t e =
-        let d = spelt n (rowItems from c ++ (listEnd ∷ rest)) t (e ∙ append-assoc (nodeItems from n) (rowItems from c) (listEnd ∷ rest)) in
+        let d = spelt n (rowItems from c ++ rest) t (e ∙ append-assoc (nodeItems from n) (rowItems from c) rest) in
         then-spelt d (spelt-all c rest (d .follow) (d .items))
 
 over-ended : {text : List ℕ} {r : Reader} {ps : List Placed} → Follows text r ps → itemsOf ps ≡ [] → finishReading text r ≡ ended

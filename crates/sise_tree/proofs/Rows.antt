@@ -1,14 +1,16 @@
--- A node of a table: its four words, and the words after it.
+-- A node's four words in a table: read, and written.
 -- Assumes nothing.
 use Prim.Native.Nat.{ℕ, suc, _+_, _*_, _≤_}
+use native.Mathlib.Nat.{zero-add, suc-add}
 use native.Mathlib.Numerals.{add-one, add-two, add-three, add-four}
 use native.Mathlib.Omega.{arith}
-use mathlib.Core.Path.{_≡_}
-use mathlib.Core.List.{List, _∷_}
-use lib.ListN.{length, getD, drop}
-use lib.Seq.{drop-cons}
+use mathlib.Core.Path.{_≡_, sym, ap, _∙_}
+use mathlib.Core.List.{List, [], _∷_, _++_}
+use lib.ListN.{length, getD, drop, set}
+use lib.Seq.{drop-cons, getD-append-add}
 use Rattle.sise_tree.specs.Tree.{kind, first, second, span}
 
+-- a node's four words, and the words after it
 pub four :
     (words : List ℕ) (a : ℕ) → 4 * (a + 1) ≤ length words
     → drop (4 * a) words ≡ kind words a ∷ first words a ∷ second words a ∷ span words a ∷ drop (4 * (a + 1)) words
@@ -28,3 +30,14 @@ four words a h = go (4 * a) (omega arith) (omega arith)
           drop-cons words (suc (suc i)) 0 (omega arith),
           drop-cons words (suc (suc (suc i))) 0 (omega arith),
         )
+
+-- at j past the first m
+set-append-add : (xs ys : List ℕ) (j v : ℕ) → set (xs ++ ys) (length xs + j) v ≡ xs ++ set ys j v
+set-append-add [] ys j v = rw (zero-add j)
+set-append-add (x ∷ xs) ys j v = rw (suc-add (length xs) j) (ap (λ (l : List ℕ). x ∷ l) (set-append-add xs ys j v))
+
+pub set-past : (xs ys : List ℕ) {m : ℕ} (j v : ℕ) → length xs ≡ m → set (xs ++ ys) (m + j) v ≡ xs ++ set ys j v
+set-past xs ys j v e = rw (← e) (set-append-add xs ys j v)
+
+pub getD-past : (xs ys : List ℕ) {m : ℕ} (j : ℕ) → length xs ≡ m → getD (xs ++ ys) (m + j) 0 ≡ getD ys j 0
+getD-past xs ys j e = rw (← e) (getD-append-add xs ys j 0)

@@ -9,3 +9,4 @@ pub mod Descent
 pub mod Alike
 pub mod Rows
 pub mod TableExamples
+pub mod Filling

@@ -6,7 +6,10 @@ use sise_parser::ParseError;
 use sise_parser::ParsedItem;
 use sise_parser::Reader;
 ghost use mathlib.Core.Path.{_≡_};
-ghost use Rattle.sise_tree.specs.ParseTree.{parseTree, DoesParse};
+ghost use Prim.Native.Nat.{_<_, _/_};
+ghost use lib.ListN.{length};
+ghost use Rattle.sise_tree.specs.ParseTree.{readNode, parseTree, DoesParse};
+ghost use Rattle.sise_tree.specs.Filling.{DoesCount, putAt, CanAttach, Attaches, CanClose, Closes, CanTurn, Turns, CanFill, DoesFill};
 
 // What parse_tree answers: the number of nodes, or a refusal.
 pub enum ParsedTree {
@@ -25,61 +28,67 @@ pub struct TreeRead {
     pub answer: ParsedTree,
 }
 
-// Reads a node and counts its nodes.
-fn count_nodes(text: &[u8], reader: Reader) -> TreeRead {
+// Reads the node that is due and counts its nodes.
+fn count_nodes(text: &[u8], reader: Reader) -> TreeRead
+    ensures { λ r. ⌜ DoesCount (readNode (now (text .entry)) reader) r ⌝ }
+{
     let mut r = reader;
     let mut depth: usize = 0;
     let mut nodes: usize = 0;
-    loop {
+    let answer = loop {
         let next = r.next_item(text);
         let answer = next.answer;
         r = next.reader;
         match answer {
-            Answer::Refused(error) => {
-                return TreeRead {
-                    reader: r,
-                    answer: ParsedTree::Refused(error),
-                };
-            }
+            Answer::Refused(error) => break ParsedTree::Refused(error),
             Answer::Item(item) => match item {
                 ParsedItem::Atom { .. } => {
                     nodes += 1;
+                    if depth == 0 {
+                        break ParsedTree::Nodes(nodes);
+                    }
                 }
                 ParsedItem::ListStart { .. } => {
                     nodes += 1;
                     depth += 1;
-                    continue;
                 }
                 ParsedItem::ListEnd { pos } => {
                     if depth == 0 {
-                        return TreeRead {
-                            reader: r,
-                            answer: ParsedTree::UnexpectedListEnd { pos },
-                        };
+                        break ParsedTree::UnexpectedListEnd { pos };
                     }
                     depth -= 1;
+                    if depth == 0 {
+                        break ParsedTree::Nodes(nodes);
+                    }
                 }
             },
         }
-        if depth == 0 {
-            return TreeRead {
-                reader: r,
-                answer: ParsedTree::Nodes(nodes),
-            };
-        }
-    }
+    };
+    TreeRead { reader: r, answer }
+}
+
+// Where the filling stands: the index of the next node, and the link to the innermost open list. A link is a node's index and one, or 0 for none.
+struct Mark {
+    next: u32,
+    parent: u32,
 }
 
 // Node `i`'s words become these.
-fn put(table: &mut [u32], i: usize, kind: u32, first: u32, second: u32, span: u32) {
+fn put(table: &mut [u32], i: usize, kind: u32, first: u32, second: u32, span: u32)
+    requires { ⌜ i < length (now table) / 4 ⌝ }
+    ensures { λ r. ⌜ now (table .exit) ≡ putAt (now (table .entry)) i kind first second span ⌝ }
+{
     table[4 * i] = kind;
     table[4 * i + 1] = first;
     table[4 * i + 2] = second;
     table[4 * i + 3] = span;
 }
 
-// The list of the link `parent` has one child more. A link is a node's index and one, or 0 for none.
-fn count_child(table: &mut [u32], parent: u32) {
+// The list of the link `parent` has one child more.
+fn count_child(table: &mut [u32], parent: u32)
+    requires { ⌜ CanAttach (now table) parent ⌝ }
+    ensures { λ r. ⌜ Attaches (now (table .entry)) parent (now (table .exit)) ⌝ }
+{
     if parent == 0 {
         return;
     }
@@ -89,7 +98,10 @@ fn count_child(table: &mut [u32], parent: u32) {
 }
 
 // The list of the link `parent` ends before node `next`. Its own link, which its third word held, is handed back.
-fn close_list(table: &mut [u32], next: u32, parent: u32) -> u32 {
+fn close_list(table: &mut [u32], next: u32, parent: u32) -> u32
+    requires { ⌜ CanClose (now table) next parent ⌝ }
+    ensures { λ r. ⌜ Closes (now (table .entry)) next parent r (now (table .exit)) ⌝ }
+{
     let first = parent - 1;
     let i = wide(first);
     let link = table[4 * i + 2];
@@ -99,36 +111,52 @@ fn close_list(table: &mut [u32], next: u32, parent: u32) -> u32 {
     link
 }
 
-// Reads a node again, which is known to be one and to have room, and writes its words. While a list is open, its third word is the link to its parent.
-fn fill_nodes(text: &[u8], reader: Reader, table: &mut [u32]) {
+// An item's words are written. While a list is open, its third word is the link to its parent.
+fn put_item(table: &mut [u32], mark: Mark, item: ParsedItem) -> Mark
+    requires { ⌜ CanTurn (now table) mark item ⌝ }
+    ensures { λ r. ⌜ Turns (now (table .entry)) mark item r (now (table .exit)) ⌝ }
+{
+    let next = mark.next;
+    let parent = mark.parent;
+    match item {
+        ParsedItem::Atom { pos, len } => {
+            put(table, wide(next), 1, pos as u32, len as u32, 1);
+            count_child(table, parent);
+            Mark {
+                next: next + 1,
+                parent,
+            }
+        }
+        ParsedItem::ListStart { .. } => {
+            put(table, wide(next), 0, 0, parent, 0);
+            Mark {
+                next: next + 1,
+                parent: next + 1,
+            }
+        }
+        ParsedItem::ListEnd { .. } => {
+            let parent = close_list(table, next, parent);
+            Mark { next, parent }
+        }
+    }
+}
+
+// Reads a node again, which is known to be one and to have room, and writes its words.
+fn fill_nodes(text: &[u8], reader: Reader, table: &mut [u32])
+    requires { ⌜ CanFill (now text) reader (now table) ⌝ }
+    ensures { λ r. ⌜ DoesFill (now (text .entry)) reader (now (table .entry)) (now (table .exit)) ⌝ }
+{
     let mut r = reader;
-    let mut next: u32 = 0;
-    let mut parent: u32 = 0;
+    let mut mark = Mark { next: 0, parent: 0 };
     loop {
         let read = r.next_item(text);
         let answer = read.answer;
         r = read.reader;
-        match answer {
-            Answer::Refused(_) => {
-                return;
-            }
-            Answer::Item(item) => match item {
-                ParsedItem::Atom { pos, len } => {
-                    put(table, wide(next), 1, pos as u32, len as u32, 1);
-                    count_child(table, parent);
-                    next += 1;
-                }
-                ParsedItem::ListStart { .. } => {
-                    put(table, wide(next), 0, 0, parent, 0);
-                    next += 1;
-                    parent = next;
-                }
-                ParsedItem::ListEnd { .. } => {
-                    parent = close_list(table, next, parent);
-                }
-            },
-        }
-        if parent == 0 {
+        let Answer::Item(item) = answer else {
+            return;
+        };
+        mark = put_item(table, mark, item);
+        if mark.parent == 0 {
             return;
         }
     }

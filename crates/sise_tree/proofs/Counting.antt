@@ -1,0 +1,115 @@
+-- The state of the counting loop, and how each item takes it on: the number of open lists stands for the lists themselves.
+-- Assumes nothing.
+use Prim.Native.Nat.{ℕ, _+_, _-_, _≤_, _<_}
+use native.Mathlib.Omega.{arith}
+use mathlib.Core.Path.{_≡_, refl, sym, ap, _∙_}
+use mathlib.Core.List.{List}
+use Rattle.sise_parser.specs.Refusals.{Refusal, refusal, refusalOf}
+use Rattle.sise_parser.specs.Reader.{item, refused, next, nextItem}
+use Rattle.sise_parser.specs.declared.error.ParseError.{ParseError}
+use Rattle.sise_parser.specs.declared.reader.Reader.{Reader}
+use Rattle.sise_parser.specs.declared.reader.ParsedItem.{ParsedItem}
+use Rattle.sise_parser.specs.declared.reader.ParsedItem.the-variants.{Atom, ListStart, ListEnd}
+use Rattle.sise_tree.specs.Tree.{Node, atom, list, Nodes, empty, size, sizes}
+use Rattle.sise_tree.specs.Answers as answers
+use Rattle.sise_tree.specs.ParseTree.{Frames, top, _▹_, Stage, inside, whole, closes, snoc, attach, close, turn, ReadNode, got, stopped, readStage, readFrom, readNode}
+use Rattle.sise_tree.specs.Filling.{filled, filledIn, DoesCount, counted, readerOf}
+use Rattle.sise_tree.specs.declared.parse.ParsedTree.the-variants.{Nodes as NodesRead, Refused, UnexpectedListEnd}
+use Rattle.sise_tree.proofs.ReadSteps.{took, readOn, read-item, read-refused}
+use Rattle.sise_tree.proofs.FillingLaws.{attach-filled}
+
+unfoldable pub opened : Frames → ℕ
+opened top = 0
+opened (f ▹ c) = opened f + 1
+
+opened-le : (f : Frames) → opened f ≤ filled f
+unfolding opened filled
+opened-le top = omega arith
+opened-le (f ▹ c) = omega (arith, opened-le f)
+
+-- a node is attached inside a list, or is the whole
+attach-in : (f : Frames) (n : Node) → (opened f ≡ 0 → ⊥) → (g : Frames) × (attach f n ≡ inside g) × (opened g ≡ opened f)
+unfolding attach opened
+attach-in top n d = absurd (d refl)
+attach-in (f ▹ c) n d = (f ▹ snoc c n, refl, refl)
+
+attach-out : (f : Frames) (n : Node) → opened f ≡ 0 → (attach f n ≡ whole n) × (filled f ≡ 0)
+unfolding attach opened filled
+attach-out top n d = (refl, refl)
+attach-out (f ▹ c) n d = absurd (omega arith)
+
+module _ (text : List ℕ) (r₀ : Reader) where
+  -- reading on with these open lists, so many and of so many nodes, is reading the node
+  pub record Counts (f : Frames) (r : Reader) (depth nodes : ℕ) : Type 0 where
+    pub reads : readOn text r f ≡ readNode text r₀
+    pub deep : depth ≡ opened f
+    pub many : nodes ≡ filled f
+    pub early : nodes ≤ r .position
+
+  pub counts-none : Counts top r₀ 0 0
+  unfolding opened filled readNode
+  counts-none = record { reads = refl; deep = refl; many = refl; early = omega arith }
+
+  -- where it is known what the item makes of the open lists
+  module _ {f : Frames} {r : Reader} {depth nodes : ℕ} (h : Counts f r depth nodes) {q : Reader} {i : ParsedItem} (e : nextItem text r ≡ next q (item i)) where
+    turned : {s : Stage} → turn f i ≡ s → readStage (readOn text q) q s ≡ readNode text r₀
+    turned t = ap (readStage (readOn text q) q) (sym t) ∙ sym (read-item text r f e) ∙ h .reads
+
+    ends : {n : Node} {k : ℕ} → turn f i ≡ whole n → k ≡ size n → DoesCount (readNode text r₀) (record { reader = q; answer = NodesRead k })
+    unfolding readStage
+    ends t z = record { reader = ap readerOf (turned t); answer = ap answers.answered z ∙ ap counted (turned t) }
+
+    goes : {g : Frames} {d k : ℕ} → turn f i ≡ inside g → d ≡ opened g → k ≡ filled g → k ≤ nodes + 1 → Counts g q d k
+    unfolding readStage
+    goes t dz kz le = record { reads = turned t; deep = dz; many = kz; early = omega (arith, h .early, took text r e .moves) }
+
+  module _ {f : Frames} {r : Reader} {depth nodes : ℕ} (h : Counts f r depth nodes) where
+    pub depth-le : depth ≤ nodes
+    depth-le = omega (arith, h .deep, h .many, opened-le f)
+
+    pub refused-ends : {q : Reader} {x : ParseError} → nextItem text r ≡ next q (refused (refusalOf x)) → DoesCount (readNode text r₀) (record { reader = q; answer = Refused x })
+    refused-ends e =
+        let z = sym (read-refused text r f e) ∙ h .reads in
+        record { reader = ap readerOf z; answer = ap counted z }
+
+    pub start-goes : {q : Reader} {p : ℕ} → nextItem text r ≡ next q (item (ListStart p)) → (g : Frames) × Counts g q (depth + 1) (nodes + 1)
+    unfolding turn opened filled sizes
+    start-goes e = (f ▹ empty, goes h e refl (omega (arith, h .deep)) (omega (arith, h .many)) (omega arith))
+
+    module _ {q : Reader} {p n : ℕ} (e : nextItem text r ≡ next q (item (Atom p n))) where
+      pub atom-ends : depth ≡ 0 → DoesCount (readNode text r₀) (record { reader = q; answer = NodesRead (nodes + 1) })
+      unfolding turn size
+      atom-ends z = let (t, none) = attach-out f (atom p n) (sym (h .deep) ∙ z) in ends h e t (omega (arith, h .many))
+
+      pub atom-goes : (depth ≡ 0 → ⊥) → (g : Frames) × Counts g q depth (nodes + 1)
+      unfolding turn size filledIn
+      atom-goes z =
+          let (g, t, o) = attach-in f (atom p n) (λ d. z (h .deep ∙ d)) in
+          let m : filled g ≡ filled f + 1 = ap filledIn (sym t) ∙ attach-filled f (atom p n) in
+          (g, goes h e t (h .deep ∙ sym o) (omega (arith, h .many)) (omega arith))
+
+  -- a list's end leaves a node that is attached where its list began
+  pub close-ends :
+      {f : Frames} {r : Reader} {depth nodes : ℕ} → Counts f r depth nodes → {q : Reader} {p : ℕ} → nextItem text r ≡ next q (item (ListEnd p))
+      → depth ≡ 0 → DoesCount (readNode text r₀) (record { reader = q; answer = UnexpectedListEnd p })
+  unfolding turn close opened readStage
+  close-ends {f = top} h e z = record { reader = ap readerOf (turned h e refl); answer = ap counted (turned h e refl) }
+  close-ends {f = f ▹ c} h e z = absurd (omega (arith, h .deep))
+
+  pub list-ends :
+      {f : Frames} {r : Reader} {depth nodes : ℕ} → Counts f r depth nodes → {q : Reader} {p : ℕ} → nextItem text r ≡ next q (item (ListEnd p))
+      → (depth ≡ 0 → ⊥) → depth - 1 ≡ 0 → DoesCount (readNode text r₀) (record { reader = q; answer = NodesRead nodes })
+  unfolding turn close opened filled size
+  list-ends {f = top} h e z o = absurd (z (h .deep))
+  list-ends {f = f ▹ c} h e z o = let (t, none) = attach-out f (list c) (omega (arith, h .deep)) in ends h e t (omega (arith, h .many))
+
+  pub list-goes :
+      {f : Frames} {r : Reader} {depth nodes : ℕ} → Counts f r depth nodes → {q : Reader} {p : ℕ} → nextItem text r ≡ next q (item (ListEnd p))
+      → (depth ≡ 0 → ⊥) → (depth - 1 ≡ 0 → ⊥) → (g : Frames) × Counts g q (depth - 1) nodes
+  unfolding turn close opened filled size filledIn
+  list-goes {f = top} h e z o = absurd (z (h .deep))
+  list-goes {f = f ▹ c} {depth = depth} h e z o =
+      let d : depth - 1 ≡ opened f = omega (arith, h .deep) in
+      let (g, t, q) = attach-in f (list c) (λ y. o (d ∙ y)) in
+      let m : filled g ≡ filled f + (1 + sizes c) = ap filledIn (sym t) ∙ attach-filled f (list c) in
+      (g, goes h e t (d ∙ sym q) (h .many ∙ sym m) (omega arith))

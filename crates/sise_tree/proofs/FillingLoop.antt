@@ -1,0 +1,113 @@
+-- The filling loop comes to the node that was counted: each item fits, since the words so far are fewer than the node's.
+-- Assumes nothing.
+use Prim.Native.Nat.{ℕ, suc, _+_, _*_, _/_, _^_, _≤_, _<_}
+use native.Mathlib.Omega.{arith}
+use mathlib.Core.Path.{_≡_, refl, sym, ap, _∙_, subst}
+use mathlib.Core.List.{List, _++_}
+use lib.ListN.{length, drop}
+use Rattle.sise_parser.specs.Refusals.{Refusal}
+use Rattle.sise_parser.specs.Reader.{item, refused, next, nextItem}
+use Rattle.sise_parser.specs.declared.reader.Reader.{Reader}
+use Rattle.sise_parser.specs.declared.reader.ParsedItem.{ParsedItem}
+use Rattle.sise_parser.specs.declared.reader.ParsedItem.the-variants.{Atom, ListStart, ListEnd}
+use Rattle.sise_tree.specs.Tree.{Node, atom, list, Nodes, empty, size, sizes, table}
+use Rattle.sise_tree.specs.ParseTree.{longest, Frames, top, _▹_, Stage, inside, whole, closes, attach, close, turn, ReadNode, got, stopped, readStage, readFrom, readNode, filledWith}
+use Rattle.sise_tree.specs.Filling.{filled, link, render, filledIn, linkIn, renderIn, Shows, SmallItem, Fits, Fillable, CanFill, DoesFill}
+use Rattle.sise_tree.specs.declared.parse.Mark.{Mark}
+use Rattle.sise_tree.proofs.ReadSteps.{Took, took, readOn, read-item, read-refused, nodeIn, stopped-got, stage-got, Leads, leads}
+use Rattle.sise_tree.proofs.ParseLaws.{at-most-bytes}
+use Rattle.sise_tree.proofs.FillingLaws.{attach-filled}
+
+-- no item takes a node away
+turn-grows : (f : Frames) (i : ParsedItem) → filled f ≤ filledIn (turn f i)
+unfolding turn close filledIn filled size
+turn-grows f (Atom p n) = omega (arith, attach-filled f (atom p n))
+turn-grows f (ListStart p) = omega arith
+turn-grows top (ListEnd p) = omega arith
+turn-grows (f ▹ c) (ListEnd p) = omega (arith, attach-filled f (list c))
+
+grows : (text : List ℕ) {n : Node} {q : Reader} → Leads text n q (λ f r. filled f ≤ size n)
+unfolding filledIn
+grows text =
+    record {
+      ended = λ f r i e t. let z = ap filledIn t in omega (arith, turn-grows f i);
+      went = λ f g r s i e t h. let z = ap filledIn t in omega (arith, turn-grows f i);
+    }
+
+-- no link is 0 while a list is open
+attach-done : (f : Frames) (n : Node) → linkIn (attach f n) ≡ 0 → attach f n ≡ whole n
+unfolding attach linkIn link
+attach-done top n z = refl
+attach-done (f ▹ c) n z = absurd (omega arith)
+
+turn-done : (f : Frames) (i : ParsedItem) → linkIn (turn f i) ≡ 0 → ((p : ℕ) → turn f i ≡ closes p → ⊥) → (n : Node) × (turn f i ≡ whole n)
+unfolding turn close linkIn link
+turn-done f (Atom p n) z d = (atom p n, attach-done f (atom p n) z)
+turn-done f (ListStart p) z d = absurd (omega arith)
+turn-done top (ListEnd p) z d = absurd (d p refl)
+turn-done (f ▹ c) (ListEnd p) z d = (list c, attach-done f (list c) z)
+
+stage-inside : (s : Stage) → (linkIn s ≡ 0 → ⊥) → (f : Frames) × (s ≡ inside f)
+unfolding linkIn
+stage-inside (inside f) d = (f, refl)
+stage-inside (whole n) d = absurd (d refl)
+stage-inside (closes p) d = absurd (d refl)
+
+module _ (text w₀ : List ℕ) (r₀ : Reader) where
+  -- reading on with these open lists is reading the node, and the table stands for them
+  pub record Fills (f : Frames) (r : Reader) (words : List ℕ) (m : Mark) : Type 0 where
+    pub reads : readOn text r f ≡ readNode text r₀
+    pub shows : Shows w₀ (inside f) words m
+    pub same : length words ≡ length w₀
+
+  pub fills-none : Fills top r₀ w₀ (record { next = 0; parent = 0 })
+  unfolding readNode filled filledIn link linkIn render renderIn
+  fills-none = record { reads = refl; shows = record { shown = refl; nexts = refl; linked = refl }; same = refl }
+
+  module _ {n : Node} {q₀ : Reader} (k : Fillable text r₀ w₀ n q₀) {f : Frames} {r : Reader} {words : List ℕ} {m : Mark} (h : Fills f r words m) where
+    pub never-refused : {A : Type 0} {q : Reader} {x : Refusal} → nextItem text r ≡ next q (refused x) → A
+    never-refused e = stopped-got (sym (read-refused text r f e) ∙ h .reads ∙ k .reads)
+
+    module _ {q : Reader} {i : ParsedItem} (e : nextItem text r ≡ next q (item i)) where
+      turned : {s : Stage} → turn f i ≡ s → readStage (readOn text q) q s ≡ got n q₀
+      turned t = ap (readStage (readOn text q) q) (sym t) ∙ sym (read-item text r f e) ∙ h .reads ∙ k .reads
+
+      due : (p : ℕ) → turn f i ≡ closes p → ⊥
+      unfolding readStage
+      due p t = stopped-got (turned t)
+
+      small-size : filledIn (turn f i) ≤ size n
+      unfolding filledIn
+      small-size =
+          stage-got (turn f i) (turned refl)
+          (λ g t more. let z = ap filledIn t in omega (arith, leads text (grows text) (suc (length text)) g q more))
+          (λ t z. let z = ap filledIn t in omega arith)
+
+      pub item-fits : Fits (length words) f i
+      item-fits =
+          record {
+            due = due;
+            room = omega (arith, small-size, k .room, h .same);
+            item = small-item i (took text r e);
+            small = omega (arith, small-size, k .short, at-most-bytes text r₀ (k .reads));
+          }
+        where
+          small-item : (j : ParsedItem) → Took text r q j → SmallItem j
+          small-item (Atom p n) t = omega (arith, t .leaves .0, t .within, k .short)
+          small-item (ListStart p) t = tt
+          small-item (ListEnd p) t = tt
+
+      module _ {now : List ℕ} {m′ : Mark} (s : Shows w₀ (turn f i) now m′) where
+        pub fill-ends : m′ .parent ≡ 0 → DoesFill text r₀ w₀ now
+        unfolding filledWith filledIn renderIn readStage
+        fill-ends z l p d =
+            let (o, t) = turn-done f i (sym (s .linked) ∙ z) due in
+            s .shown
+            ∙ ap (λ (x : Stage). renderIn x ++ drop (4 * filledIn x) w₀) t
+            ∙ ap (λ (x : ReadNode). filledWith (nodeIn o x) w₀) (turned t ∙ sym (k .reads) ∙ d)
+
+        pub fill-goes : (m′ .parent ≡ 0 → ⊥) → length now ≡ length words → (g : Frames) × Fills g q now m′
+        unfolding readStage
+        fill-goes z l =
+            let (g, t) = stage-inside (turn f i) (λ d. z (s .linked ∙ d)) in
+            (g, record { reads = turned t ∙ sym (k .reads); shows = subst (λ (x : Stage). Shows w₀ x now m′) t s; same = l ∙ h .same })

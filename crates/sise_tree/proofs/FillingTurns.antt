@@ -1,0 +1,111 @@
+-- The state of the filling, and how each item takes it on.
+-- Assumes nothing.
+use Prim.Native.Nat.{ℕ, _+_, _*_, _/_, _^_, _≤_, _<_}
+use native.Mathlib.Omega.{arith}
+use mathlib.Core.Path.{_≡_, sym, ap, _∙_, subst}
+use mathlib.Core.List.{List, [], _∷_, _++_, append-assoc}
+use lib.ListN.{length, drop}
+use lib.Seq.{drop-drop}
+use Rattle.sise_parser.specs.declared.reader.ParsedItem.{ParsedItem}
+use Rattle.sise_parser.specs.declared.reader.ParsedItem.the-variants.{Atom, ListStart, ListEnd}
+use Rattle.sise_tree.specs.Tree.{atom, list, Nodes, empty, size, sizes, children, table, tables}
+use Rattle.sise_tree.specs.ParseTree.{Frames, top, _▹_, Stage, inside, whole, closes, attach, close, turn}
+use Rattle.sise_tree.specs.Filling.{filled, link, render, filledIn, linkIn, renderIn, putAt, Attachable, CanAttach, Attaches, Closable, CanClose, Closes, Shows, SmallItem, Fits}
+use Rattle.sise_tree.specs.declared.parse.Mark.{Mark}
+use Rattle.sise_tree.proofs.FillingLaws.{put-set, attach-filled, attach-link}
+
+-- the words that are left, four fewer
+step : (i : ℕ) (w₀ : List ℕ) → drop 4 (drop (4 * i) w₀) ≡ drop (4 * (i + 1)) w₀
+step i w₀ = drop-drop 4 (4 * i) w₀ ∙ ap (λ (j : ℕ). drop j w₀) {x = 4 * i + 4} {y = 4 * (i + 1)} (omega arith)
+
+module _ {w₀ words : List ℕ} {f : Frames} {m : Mark} (h : Shows w₀ (inside f) words m) where
+  -- node i, which is the next, becomes these words
+  put-shown : {i : ℕ} (k a b s : ℕ) → i ≡ m .next → putAt words i k a b s ≡ render f ++ (k ∷ a ∷ b ∷ s ∷ drop 4 (drop (4 * filled f) w₀))
+  unfolding renderIn filledIn
+  put-shown k a b s e = rw (e, h .nexts, h .shown) (put-set f k a b s (drop (4 * filled f) w₀))
+
+  -- an atom
+  module _ {i : ParsedItem} {p n : ℕ} (t : i ≡ Atom p n) (u : Fits (length words) f i) where
+    pub atom-small : p + n < 2 ^ 32
+    atom-small = subst SmallItem t (u .item)
+
+    atom-turn : turn f i ≡ attach f (atom p n)
+    unfolding turn
+    atom-turn = ap (turn f) t
+
+    atom-grows : filledIn (turn f i) ≡ filled f + 1
+    unfolding size
+    atom-grows = ap filledIn atom-turn ∙ attach-filled f (atom p n)
+
+    pub atom-room : (m .next < length words / 4) × (m .next + 1 < 2 ^ 32)
+    unfolding filledIn
+    atom-room = (omega (arith, h .nexts, atom-grows, u .room), omega (arith, h .nexts, atom-grows, u .small))
+
+    module _ {k : ℕ} (e : k ≡ m .next) {put : List ℕ} (w : put ≡ putAt words k 1 p n 1) where
+      pub atom-attachable : Attachable put (m .parent) f (atom p n) (drop 4 (drop (4 * filled f) w₀))
+      unfolding linkIn table
+      atom-attachable = record { shown = w ∙ put-shown 1 p n 1 e; linked = h .linked; small = omega (arith, atom-grows, u .small) }
+
+      pub atom-turns : {now : List ℕ} → Attaches put (m .parent) now → Shows w₀ (turn f i) now (record { next = m .next + 1; parent = m .parent })
+      unfolding filledIn linkIn
+      atom-turns a =
+          record {
+            shown =
+                a f (atom p n) _ atom-attachable
+                ∙ ap (λ (s : Stage). renderIn s ++ drop 4 (drop (4 * filled f) w₀)) (sym atom-turn)
+                ∙ ap (λ (l : List ℕ). renderIn (turn f i) ++ l) (step (filled f) w₀ ∙ ap (λ (j : ℕ). drop (4 * j) w₀) (sym atom-grows));
+            nexts = ap (λ (j : ℕ). j + 1) (h .nexts) ∙ sym atom-grows;
+            linked = h .linked ∙ sym (ap linkIn atom-turn ∙ attach-link f (atom p n));
+          }
+
+  -- a list's start
+  module _ {i : ParsedItem} {p : ℕ} (t : i ≡ ListStart p) (u : Fits (length words) f i) where
+    start-turn : turn f i ≡ inside (f ▹ empty)
+    unfolding turn
+    start-turn = ap (turn f) t
+
+    start-grows : filledIn (turn f i) ≡ filled f + 1
+    unfolding filledIn filled sizes
+    start-grows = ap filledIn start-turn
+
+    pub start-room : (m .next < length words / 4) × (m .next + 1 < 2 ^ 32)
+    unfolding filledIn
+    start-room = (omega (arith, h .nexts, start-grows, u .room), omega (arith, h .nexts, start-grows, u .small))
+
+    pub start-turns :
+        {k : ℕ} → k ≡ m .next → {now : List ℕ} → now ≡ putAt words k 0 0 (m .parent) 0
+        → Shows w₀ (turn f i) now (record { next = m .next + 1; parent = m .next + 1 })
+    unfolding filledIn filled linkIn link renderIn render sizes children tables
+    start-turns e {now} w =
+        subst (λ (s : Stage). Shows w₀ s now (record { next = m .next + 1; parent = m .next + 1 })) (sym start-turn)
+        (record {
+          shown =
+              w ∙ put-shown 0 0 (m .parent) 0 e
+              ∙ ap (λ (k : ℕ). render f ++ (0 ∷ 0 ∷ k ∷ 0 ∷ drop 4 (drop (4 * filled f) w₀))) (h .linked)
+              ∙ ap (λ (l : List ℕ). render f ++ (0 ∷ 0 ∷ link f ∷ 0 ∷ l)) (step (filled f) w₀)
+              ∙ sym (append-assoc (render f) (0 ∷ 0 ∷ link f ∷ 0 ∷ []) (drop (4 * (filled f + 1)) w₀));
+          nexts = ap (λ (j : ℕ). j + 1) (h .nexts);
+          linked = ap (λ (j : ℕ). j + 1) (h .nexts);
+        })
+
+-- a list's end
+module _ {w₀ words : List ℕ} {m : Mark} {i : ParsedItem} {p : ℕ} (t : i ≡ ListEnd p) where
+  pub end-closable : (f : Frames) → Shows w₀ (inside f) words m → Fits (length words) f i → CanClose words (m .next) (m .parent)
+  unfolding turn close filledIn linkIn renderIn
+  end-closable top h u = absurd (u .due p (ap (turn top) t))
+  end-closable (f ▹ c) h u = (f, c, drop (4 * filled (f ▹ c)) w₀, record { shown = h .shown; nexts = h .nexts; linked = h .linked })
+
+  pub end-turns :
+      (f : Frames) → Shows w₀ (inside f) words m → Fits (length words) f i → {r : ℕ} {now : List ℕ}
+      → Closes words (m .next) (m .parent) r now → Shows w₀ (turn f i) now (record { next = m .next; parent = r })
+  unfolding turn close filledIn linkIn renderIn filled size
+  end-turns top h u a = absurd (u .due p (ap (turn top) t))
+  end-turns (f ▹ c) h u {r} {now} a =
+      let k = a f c (drop (4 * filled (f ▹ c)) w₀) (record { shown = h .shown; nexts = h .nexts; linked = h .linked }) in
+      let z : filledIn (attach f (list c)) ≡ filled f + (1 + sizes c) = attach-filled f (list c) in
+      subst (λ (s : Stage). Shows w₀ s now (record { next = m .next; parent = r })) (sym (ap (turn (f ▹ c)) t))
+      (record {
+        shown = k .1 ∙ ap (λ (j : ℕ). renderIn (attach f (list c)) ++ drop (4 * j) w₀) (sym z);
+        nexts = h .nexts ∙ sym z;
+        linked = k .0 ∙ sym (attach-link f (list c));
+      })

@@ -1,0 +1,127 @@
+-- What the private functions of parse_tree do: the node that is due is counted, and then filled into the table, item after item.
+-- Assumes nothing.
+use Prim.Native.Nat.{ℕ, _+_, _*_, _/_, _^_, _≤_, _<_}
+use mathlib.Core.Path.{_≡_}
+use mathlib.Core.List.{List, [], _∷_, _++_}
+use lib.ListN.{length, take, drop}
+use Rattle.sise_parser.specs.declared.reader.Reader.{Reader}
+use Rattle.sise_parser.specs.declared.reader.ParsedItem.{ParsedItem}
+use Rattle.sise_parser.specs.declared.reader.ParsedItem.the-variants.{Atom, ListStart, ListEnd}
+use Rattle.sise_tree.specs.Tree.{Node, list, Nodes, size, sizes, children, table, tables}
+use Rattle.sise_tree.specs.Answers.{Answer, answered, refused, parsedAs}
+use Rattle.sise_tree.specs.ParseTree.{longest, Frames, top, _▹_, Stage, inside, whole, closes, attach, turn, ReadNode, got, stopped, readNode, filledWith}
+use Rattle.sise_tree.specs.declared.parse.TreeRead.{TreeRead}
+use Rattle.sise_tree.specs.declared.parse.Mark.{Mark}
+
+-- ---- counting
+
+-- what it answers of a reading: the size in the node's place
+abbrev pub counted : ReadNode → Answer
+counted (got n q) = answered (size n)
+counted (stopped e q) = refused e
+
+abbrev pub readerOf : ReadNode → Reader
+readerOf (got n q) = q
+readerOf (stopped e q) = q
+
+pub record DoesCount (d : ReadNode) (r : TreeRead) : Type 0 where
+  pub reader : r .reader ≡ readerOf d
+  pub answer : parsedAs (r .answer) ≡ counted d
+
+-- ---- filling
+
+-- the nodes so far
+unfoldable pub filled : Frames → ℕ
+filled top = 0
+filled (f ▹ c) = filled f + (1 + sizes c)
+
+-- the innermost list's index and one, or 0 for none: what a list inside it has for its third word while that is open
+unfoldable pub link : Frames → ℕ
+link top = 0
+link (f ▹ c) = filled f + 1
+
+-- the words so far: an open list has no span yet
+unfoldable pub render : Frames → List ℕ
+render top = []
+render (f ▹ c) = render f ++ (0 ∷ children c ∷ link f ∷ 0 ∷ tables c)
+
+-- the same of a stage; where a `)` was met in a node's place nothing is filled
+unfoldable pub filledIn : Stage → ℕ
+filledIn (inside f) = filled f
+filledIn (whole n) = size n
+filledIn (closes p) = 0
+
+unfoldable pub linkIn : Stage → ℕ
+linkIn (inside f) = link f
+linkIn (whole n) = 0
+linkIn (closes p) = 0
+
+unfoldable pub renderIn : Stage → List ℕ
+renderIn (inside f) = render f
+renderIn (whole n) = table n
+renderIn (closes p) = []
+
+-- node i's words become these
+unfoldable pub putAt : List ℕ → ℕ → ℕ → ℕ → ℕ → ℕ → List ℕ
+putAt words i k a b s = take (4 * i) words ++ (k ∷ a ∷ b ∷ s ∷ drop (4 * (i + 1)) words)
+
+-- a node was put after the words of open lists, of which the innermost is to count it
+pub record Attachable (words : List ℕ) (parent : ℕ) (f : Frames) (n : Node) (rest : List ℕ) : Type 0 where
+  pub shown : words ≡ render f ++ (table n ++ rest)
+  pub linked : parent ≡ link f
+  pub small : filled f + 1 < 2 ^ 32
+
+abbrev pub CanAttach : List ℕ → ℕ → Type 0
+CanAttach words parent = (f : Frames) × (n : Node) × (rest : List ℕ) × Attachable words parent f n rest
+
+abbrev pub Attaches : List ℕ → ℕ → List ℕ → Type 0
+Attaches words parent now = (f : Frames) (n : Node) (rest : List ℕ) → Attachable words parent f n rest → now ≡ renderIn (attach f n) ++ rest
+
+-- the innermost list is to be closed
+pub record Closable (words : List ℕ) (next parent : ℕ) (f : Frames) (c : Nodes) (rest : List ℕ) : Type 0 where
+  pub shown : words ≡ render (f ▹ c) ++ rest
+  pub nexts : next ≡ filled (f ▹ c)
+  pub linked : parent ≡ link (f ▹ c)
+
+abbrev pub CanClose : List ℕ → ℕ → ℕ → Type 0
+CanClose words next parent = (f : Frames) × (c : Nodes) × (rest : List ℕ) × Closable words next parent f c rest
+
+abbrev pub Closes : List ℕ → ℕ → ℕ → ℕ → List ℕ → Type 0
+Closes words next parent r now =
+    (f : Frames) (c : Nodes) (rest : List ℕ) → Closable words next parent f c rest → (r ≡ link f) × (now ≡ renderIn (attach f (list c)) ++ rest)
+
+-- the table, which had the words w₀, and the filling's mark stand for a stage
+pub record Shows (w₀ : List ℕ) (s : Stage) (words : List ℕ) (m : Mark) : Type 0 where
+  pub shown : words ≡ renderIn s ++ drop (4 * filledIn s) w₀
+  pub nexts : m .next ≡ filledIn s
+  pub linked : m .parent ≡ linkIn s
+
+abbrev pub SmallItem : ParsedItem → Type 0
+SmallItem (Atom p n) = p + n < 2 ^ 32
+SmallItem (ListStart p) = Unit {0}
+SmallItem (ListEnd p) = Unit {0}
+
+-- an item is one that may come, and what it leads to has room in n words of 32 bits
+pub record Fits (n : ℕ) (f : Frames) (i : ParsedItem) : Type 0 where
+  pub due : (p : ℕ) → turn f i ≡ closes p → ⊥
+  pub room : filledIn (turn f i) ≤ n / 4
+  pub item : SmallItem i
+  pub small : filledIn (turn f i) + 1 < 2 ^ 32
+
+abbrev pub CanTurn : List ℕ → Mark → ParsedItem → Type 0
+CanTurn words m i = (w₀ : List ℕ) × (f : Frames) × Shows w₀ (inside f) words m × Fits (length words) f i
+
+abbrev pub Turns : List ℕ → Mark → ParsedItem → Mark → List ℕ → Type 0
+Turns words m i r now = (w₀ : List ℕ) (f : Frames) → Shows w₀ (inside f) words m → Fits (length words) f i → Shows w₀ (turn f i) now r
+
+-- the node that is due is known to be one, and to have room
+pub record Fillable (text : List ℕ) (r : Reader) (words : List ℕ) (n : Node) (q : Reader) : Type 0 where
+  pub short : length text ≤ longest
+  pub reads : readNode text r ≡ got n q
+  pub room : size n ≤ length words / 4
+
+abbrev pub CanFill : List ℕ → Reader → List ℕ → Type 0
+CanFill text r words = (n : Node) × (q : Reader) × Fillable text r words n q
+
+abbrev pub DoesFill : List ℕ → Reader → List ℕ → List ℕ → Type 0
+DoesFill text r words now = (n : Node) (q : Reader) → readNode text r ≡ got n q → now ≡ filledWith n words
