@@ -12,8 +12,7 @@ use lib.Dec.{leb, ltb, eqb}
 use lib.ListN.{length, getD, drop, length-append, length-drop, drop-of-length-le}
 use lib.Seq.{drop-cons}
 use borrow.Author.Tests.{ltb-true, leb-true, lt-ltb, le-ltb}
-use Rattle.sise_parser.proofs.Calls.{and-first, and-second}
-use Rattle.sise_layout.proofs.Blanks.{both}
+use Rattle.sise_util.proofs.Ranges.{and-first, and-second, both}
 use Rattle.sise_tree.specs.Tree.{Node, atom, list, Nodes, empty, _then_, size, children, table, tables, lies, liesAll, kind, first, second, span, fills, fillsIn, good}
 use Rattle.sise_tree.specs.Decision.{isSome, decide}
 use Rattle.sise_tree.specs.ParseTree.{longest}

@@ -24,6 +24,7 @@ use Rattle.sise_serializer.specs.declared.serializer.Phase.the-variants.{Done}
 use Rattle.sise_tree.specs.Descent.{ReadsNode, one, many, ReadsNodes, none, more}
 use Rattle.sise_tree.specs.Alike.{Tree, leaf, branch, Trees, nothing, _also_, treeOf, treesOf, ReadsAs}
 use Rattle.sise_tree.proofs.TreeLaws.{anded}
+use Rattle.sise_tree.proofs.Descent.{descent-read}
 use Rattle.sise_tree.specs.Tree.{Node, atom, list, Nodes, empty, _then_}
 use Rattle.sise_tree.specs.SerializeTree.{largest, nodeCalls, rowCalls, treeCalls, isAccepted, fits}
 
@@ -214,7 +215,7 @@ module _ (s : Style) (blank : Blank s) (buffer text : List ℕ) (t : ℕ) (n : N
   read-again h = rw (same-text s buffer calls) (record {
     node = r .node;
     reader = r .reader;
-    reads = r .reads;
+    reads = descent-read (writes s (length buffer) freshSerializer calls .text) (r .reads);
     same = r .same;
     ended = over-ended (r .follow) (r .items);
   })

@@ -6,7 +6,7 @@ use mathlib.Core.List.{List}
 use Rattle.sise_parser.specs.Reader.{partOf, freshReader, finishReading, ended}
 use Rattle.sise_parser.specs.declared.reader.Reader.{Reader}
 use Rattle.sise_tree.specs.Tree.{Node, atom, list, Nodes, empty, _then_}
-use Rattle.sise_tree.specs.Descent.{ReadsNode}
+use Rattle.sise_tree.specs.ParseTree.{readNode, got}
 
 infixr 20 _also_
 mutual
@@ -32,6 +32,6 @@ unfoldable mutual
 pub record ReadsAs (text : List ℕ) (tree : Tree) : Type 0 where
   pub node : Node
   pub reader : Reader
-  pub reads : ReadsNode text freshReader node reader
+  pub reads : readNode text freshReader ≡ got node reader
   pub same : treeOf text node ≡ tree
   pub ended : finishReading text reader ≡ ended
