@@ -1,4 +1,5 @@
--- A table holds a tree exactly if each node of the first node's span is good.
+-- A table holds a tree exactly if each node of the first node's span is good: the nodes that a list's count steps over are its children, each with its
+-- own span.
 -- Assumes nothing.
 use Prim.Native.Nat.{ℕ, zero, suc, _+_, _*_, _/_, _≤_, _<_}
 use native.Mathlib.Numerals.{one-add}
@@ -15,12 +16,11 @@ use borrow.Author.Tests.{ltb-true, ltb-false, leb-true, eqb-true, lt-ltb, le-leb
 use Rattle.sise_util.proofs.Ranges.{split}
 use Rattle.sise_parser.proofs.Calls.{and-first}
 use Rattle.sise_layout.proofs.Blanks.{both}
-use Rattle.sise_tree.specs.Tree.{Node, atom, list, Nodes, empty, _then_, size, sizes, children, table, tables, lies, liesAll, Holds}
-use Rattle.sise_tree.proofs.TreeLaws.{anded, length-table, length-tables, size-pos, row-holds, holds-words, holds-fits}
+use Rattle.sise_tree.specs.Tree.{Node, atom, list, Nodes, empty, _then_, size, sizes, children, table, tables, lies, liesAll, Holds, kind, first, second, span, fills, fillsIn, good, HoldsTree}
 use Rattle.sise_tree.specs.Decision.{isSome, decide}
+use Rattle.sise_tree.proofs.TreeLaws.{anded, length-table, length-tables, size-pos, row-holds, holds-words, holds-fits}
 use Rattle.sise_tree.proofs.DecisionLaws.{decide-sound, decide-complete}
 use Rattle.sise_tree.proofs.Rows.{four}
-use Rattle.sise_tree.specs.Tree.{kind, first, second, span, fills, fillsIn, good, HoldsTree}
 
 pub fills-le : (words : List ℕ) (c i e : ℕ) → fills words c i e ≡ true → i ≤ e
 unfolding fills
@@ -139,13 +139,13 @@ module _ (l : ℕ) (words : List ℕ) where
   each-join : {a m e : ℕ} → Each a m → Each m e → Each a e
   each-join {m} p q k h g = split (ltb k m) (λ t. p k h (ltb-true k m t)) (λ t. q k (ltb-false k m t) g)
 
-  good-atom : {a p n : ℕ} {rest : List ℕ} → Stands words a 1 p n 1 rest → leb (p + n) l ≡ true → good l words a ≡ true
+  atom-good : {a p n : ℕ} {rest : List ℕ} → Stands words a 1 p n 1 rest → leb (p + n) l ≡ true → good l words a ≡ true
   unfolding good
-  good-atom s t = rw (s .kinds, good) (both _ _ (eq-eqb _ _ (s .spans)) (rw (s .firsts, s .seconds) t))
+  atom-good s t = rw (s .kinds, good) (both _ _ (eq-eqb _ _ (s .spans)) (rw (s .firsts, s .seconds) t))
 
-  good-list : {a c p : ℕ} {rest : List ℕ} → Stands words a 0 c 0 p rest → fillsIn words c (a + 1) (a + p) ≡ true → good l words a ≡ true
+  list-good : {a c p : ℕ} {rest : List ℕ} → Stands words a 0 c 0 p rest → fillsIn words c (a + 1) (a + p) ≡ true → good l words a ≡ true
   unfolding good
-  good-list s t = rw (s .kinds, good) (both _ _ (eq-eqb _ _ (s .seconds)) (rw (s .firsts, s .spans) t))
+  list-good s t = rw (s .kinds, good) (both _ _ (eq-eqb _ _ (s .seconds)) (rw (s .firsts, s .spans) t))
 
   -- in the words of a tree each node is good, and in those of a row the spans fill it too
   mutual
@@ -154,13 +154,13 @@ module _ (l : ℕ) (words : List ℕ) where
     pub node-local :
         (n : Node) (a : ℕ) (rest : List ℕ) → drop (4 * a) words ≡ table n ++ rest → lies l n ≡ true
         → (span words a ≡ size n) × Each a (a + size n)
-    node-local (atom p n) a rest e t = let s = stands words a e in (s .spans, each-one (good-atom s t))
+    node-local (atom p n) a rest e t = let s = stands words a e in (s .spans, each-one (atom-good s t))
     node-local (list c) a rest e t =
         let s = stands words a e in
         let (own, each) = row-local c (a + 1) rest (s .after) t in
         let z : a + 1 + sizes c ≡ a + (1 + sizes c) = omega arith in
         let within : a + (1 + sizes c) ≤ length words / 4 = omega (arith, s .within, length-append (tables c) rest, length-tables c) in
-        (s .spans, each-join (each-one (good-list s (both _ _ (le-leb _ _ within) (rw z at own)))) (rw z at each))
+        (s .spans, each-join (each-one (list-good s (both _ _ (le-leb _ _ within) (rw z at own)))) (rw z at each))
 
     pub row-local :
         (c : Nodes) (a : ℕ) (rest : List ℕ) → drop (4 * a) words ≡ tables c ++ rest → liesAll l c ≡ true
@@ -177,15 +177,6 @@ module _ (l : ℕ) (words : List ℕ) where
           each-join each (rw z at others),
         )
 
-  pub holds-sound : (n : Node) → Holds l words n → HoldsTree l words
-  holds-sound n h =
-      let (spans, each) = node-local n 0 (drop (length (table n)) words) (holds-words h) (h .inText) in
-      record {
-        begun = omega (arith, size-pos n, spans);
-        fit = omega (arith, holds-fits h, spans);
-        each = λ k g. each k (omega arith) (omega (arith, spans));
-      }
-
   -- what a table that holds n has
   pub record Held (n : Node) : Type 0 where
     pub holds : Holds l words n
@@ -193,10 +184,27 @@ module _ (l : ℕ) (words : List ℕ) where
     pub spans : span words 0 ≡ size n
     pub fits : 4 * size n ≤ length words
 
+  holds-held : {n : Node} → Holds l words n → Held n
+  holds-held {n} h =
+      let (spans, each) = node-local n 0 (drop (length (table n)) words) (holds-words h) (h .inText) in
+      let fits = holds-fits h in
+      record {
+        holds = h;
+        tree =
+            record {
+              begun = omega (arith, size-pos n, spans);
+              fit = omega (arith, fits, spans);
+              each = λ k g. each k (omega arith) (omega (arith, spans));
+            };
+        spans = spans;
+        fits = fits;
+      }
+
+  pub holds-sound : (n : Node) → Holds l words n → HoldsTree l words
+  holds-sound n h = holds-held h .tree
+
   pub holds-here : {n : Node} → decide l words ≡ some n → Held n
-  holds-here {n} e =
-      let h = decide-sound e in
-      record { holds = h; tree = holds-sound n h; spans = node-local n 0 (drop (length (table n)) words) (holds-words h) (h .inText) .0; fits = holds-fits h }
+  holds-here e = holds-held (decide-sound e)
 
   -- after holds_tree has answered true
   pub held : isSome (decide l words) ≡ true → (n : Node) × (decide l words ≡ some n) × Held n
