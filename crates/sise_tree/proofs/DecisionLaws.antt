@@ -1,4 +1,4 @@
--- The decision answers `some n` exactly if the words hold `n`.
+-- The decision answers `some n` exactly if the words hold `n`: what it reads is spelt by the words, and a table is read back.
 -- Assumes nothing.
 use Prim.Native.Nat.{ℕ, zero, suc, _+_, _<_}
 use native.Mathlib.Numerals.{one-add}
@@ -12,8 +12,8 @@ use lib.ListN.{length, drop}
 use borrow.Author.Tests.{eqb-true, eq-eqb}
 use Rattle.sise_util.proofs.Ranges.{split, both}
 use Rattle.sise_tree.specs.Tree.{Node, atom, list, Nodes, empty, _then_, size, sizes, children, table, tables, lies, liesAll, Holds}
-use Rattle.sise_tree.proofs.TreeLaws.{anded, row-holds, holds-words, words-after, holds-fits}
 use Rattle.sise_tree.specs.Decision.{guard, bind, Read, ahead, row, only, decide}
+use Rattle.sise_tree.proofs.TreeLaws.{anded, row-holds, holds-words, words-after, holds-fits}
 
 none-some : {A B : Type 0} {a : A} → _≡_ {A = Option A} none (some a) → B
 none-some h = let z : _≡_ {A = ℕ} 0 1 = cc in absurd (omega arith)
@@ -39,7 +39,9 @@ spelt-none : (l : ℕ) (ws : List ℕ) → Spelt l 0 ws (record { nodes = empty;
 unfolding tables children liesAll
 spelt-none l ws = record { words = refl; count = refl; inText = refl }
 
-spelt-atom : {l c : ℕ} (a b : ℕ) {k s : ℕ} {ws : List ℕ} {r : Read} → k ≡ 1 → s ≡ 1 → leb (a + b) l ≡ true → Spelt l c ws r → Spelt l (suc c) (k ∷ a ∷ b ∷ s ∷ ws) (ahead (atom a b) r)
+spelt-atom :
+    {l c : ℕ} (a b : ℕ) {k s : ℕ} {ws : List ℕ} {r : Read} → k ≡ 1 → s ≡ 1 → leb (a + b) l ≡ true → Spelt l c ws r
+    → Spelt l (suc c) (k ∷ a ∷ b ∷ s ∷ ws) (ahead (atom a b) r)
 unfolding ahead table tables children lies liesAll
 spelt-atom a b ek es t h = record { words = cc (h .words); count = omega (arith, h .count); inText = both _ _ t (h .inText) }
 

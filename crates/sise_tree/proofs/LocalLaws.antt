@@ -1,4 +1,5 @@
--- A table holds a tree exactly if each node of the first node's span is good.
+-- A table holds a tree exactly if each node of the first node's span is good: the nodes that a list's count steps over are its children, each with its
+-- own span.
 -- Assumes nothing.
 use Prim.Native.Nat.{ℕ, zero, suc, _+_, _*_, _/_, _≤_, _<_}
 use native.Mathlib.Numerals.{one-add}
@@ -13,17 +14,44 @@ use lib.ListN.{length, getD, drop, length-append, length-drop}
 use lib.Seq.{drop-drop, drop-at, getD-drop}
 use borrow.Author.Tests.{ltb-true, ltb-false, leb-true, eqb-true, lt-ltb, le-leb, eq-eqb}
 use Rattle.sise_util.proofs.Ranges.{split, and-first, both}
-use Rattle.sise_tree.specs.Tree.{Node, atom, list, Nodes, empty, _then_, size, sizes, children, table, tables, lies, liesAll, Holds}
-use Rattle.sise_tree.proofs.TreeLaws.{anded, length-table, length-tables, size-pos, row-holds, holds-words, holds-fits}
+use Rattle.sise_tree.specs.Tree.{Node, atom, list, Nodes, empty, _then_, size, sizes, children, table, tables, lies, liesAll, Holds, kind, first, second, span, fills, fillsIn, good, HoldsTree}
 use Rattle.sise_tree.specs.Decision.{isSome, decide}
+use Rattle.sise_tree.proofs.TreeLaws.{anded, length-table, length-tables, size-pos, row-holds, holds-words, holds-fits}
 use Rattle.sise_tree.proofs.DecisionLaws.{decide-sound, decide-complete}
 use Rattle.sise_tree.proofs.Rows.{four}
-use Rattle.sise_tree.specs.Tree.{kind, first, second, span, fills, fillsIn, good, HoldsTree}
 
 pub fills-le : (words : List ℕ) (c i e : ℕ) → fills words c i e ≡ true → i ≤ e
 unfolding fills
 fills-le words zero i e h = omega (arith, eqb-true i e h)
 fills-le words (suc c) i e h = let lt = and-first (ltb i e) _ h in omega (arith, ltb-true i e lt)
+
+module _ (words : List ℕ) where
+  -- the words of a node are these, and these follow it
+  pub record Stands (a k x y p : ℕ) (rest : List ℕ) : Type 0 where
+    pub kinds : kind words a ≡ k
+    pub firsts : first words a ≡ x
+    pub seconds : second words a ≡ y
+    pub spans : span words a ≡ p
+    pub after : drop (4 * (a + 1)) words ≡ rest
+    pub within : 4 * (a + 1) + length rest ≤ length words
+
+  pub stands : (a : ℕ) {k x y p : ℕ} {rest : List ℕ} → drop (4 * a) words ≡ k ∷ x ∷ y ∷ p ∷ rest → Stands a k x y p rest
+  stands a {rest} e =
+      record {
+        kinds = rw (add-zero (4 * a)) at (sym (getD-drop (4 * a) words 0 0) ∙ ap (λ (ws : List ℕ). getD ws 0 0) e);
+        firsts = sym (getD-drop (4 * a) words 1 0) ∙ ap (λ (ws : List ℕ). getD ws 1 0) e;
+        seconds = sym (getD-drop (4 * a) words 2 0) ∙ ap (λ (ws : List ℕ). getD ws 2 0) e;
+        spans = sym (getD-drop (4 * a) words 3 0) ∙ ap (λ (ws : List ℕ). getD ws 3 0) e;
+        after = ap (λ (i : ℕ). drop i words) {x = 4 * (a + 1)} {y = 4 * a + 4} (omega arith) ∙ sym (drop-drop 4 (4 * a) words) ∙ ap (λ (ws : List ℕ). drop 4 ws) e;
+        within = omega (arith, length-drop (4 * a) words, ap length e);
+      }
+
+  pub skip : (n : Node) (a : ℕ) (rest : List ℕ) → drop (4 * a) words ≡ table n ++ rest → drop (4 * (a + size n)) words ≡ rest
+  skip n a rest e =
+      ap (λ (i : ℕ). drop i words) {x = 4 * (a + size n)} {y = 4 * a + 4 * size n} (omega arith)
+      ∙ sym (drop-drop (4 * size n) (4 * a) words)
+      ∙ ap (λ (ws : List ℕ). drop (4 * size n) ws) e
+      ∙ drop-at (table n) rest (4 * size n) (length-table n)
 
 module _ (l : ℕ) (words : List ℕ) where
   -- each node from a up to e is good
@@ -103,46 +131,19 @@ module _ (l : ℕ) (words : List ℕ) where
       let (n, one, holds) = row-holds (b .nodes) (drop (4 * e) words) (b .count) (b .spelt) (b .inText) in
       (n, holds)
 
-  -- the words of a node are these, and these follow it
-  pub record Stands (a k x y p : ℕ) (rest : List ℕ) : Type 0 where
-    pub kinds : kind words a ≡ k
-    pub firsts : first words a ≡ x
-    pub seconds : second words a ≡ y
-    pub spans : span words a ≡ p
-    pub after : drop (4 * (a + 1)) words ≡ rest
-    pub within : 4 * (a + 1) + length rest ≤ length words
-
-  pub stands : (a : ℕ) {k x y p : ℕ} {rest : List ℕ} → drop (4 * a) words ≡ k ∷ x ∷ y ∷ p ∷ rest → Stands a k x y p rest
-  stands a {rest} e =
-      record {
-        kinds = rw (add-zero (4 * a)) at (sym (getD-drop (4 * a) words 0 0) ∙ ap (λ (ws : List ℕ). getD ws 0 0) e);
-        firsts = sym (getD-drop (4 * a) words 1 0) ∙ ap (λ (ws : List ℕ). getD ws 1 0) e;
-        seconds = sym (getD-drop (4 * a) words 2 0) ∙ ap (λ (ws : List ℕ). getD ws 2 0) e;
-        spans = sym (getD-drop (4 * a) words 3 0) ∙ ap (λ (ws : List ℕ). getD ws 3 0) e;
-        after = ap (λ (i : ℕ). drop i words) {x = 4 * (a + 1)} {y = 4 * a + 4} (omega arith) ∙ sym (drop-drop 4 (4 * a) words) ∙ ap (λ (ws : List ℕ). drop 4 ws) e;
-        within = omega (arith, length-drop (4 * a) words, ap length e);
-      }
-
   each-one : {a : ℕ} → good l words a ≡ true → Each a (a + 1)
   each-one {a} p k h g = let e : a ≡ k = omega arith in rw e at p
 
   each-join : {a m e : ℕ} → Each a m → Each m e → Each a e
   each-join {m} p q k h g = split (ltb k m) (λ t. p k h (ltb-true k m t)) (λ t. q k (ltb-false k m t) g)
 
-  pub skip : (n : Node) (a : ℕ) (rest : List ℕ) → drop (4 * a) words ≡ table n ++ rest → drop (4 * (a + size n)) words ≡ rest
-  skip n a rest e =
-      ap (λ (i : ℕ). drop i words) {x = 4 * (a + size n)} {y = 4 * a + 4 * size n} (omega arith)
-      ∙ sym (drop-drop (4 * size n) (4 * a) words)
-      ∙ ap (λ (ws : List ℕ). drop (4 * size n) ws) e
-      ∙ drop-at (table n) rest (4 * size n) (length-table n)
-
-  good-atom : {a p n : ℕ} {rest : List ℕ} → Stands a 1 p n 1 rest → leb (p + n) l ≡ true → good l words a ≡ true
+  atom-good : {a p n : ℕ} {rest : List ℕ} → Stands words a 1 p n 1 rest → leb (p + n) l ≡ true → good l words a ≡ true
   unfolding good
-  good-atom s t = rw (s .kinds, good) (both _ _ (eq-eqb _ _ (s .spans)) (rw (s .firsts, s .seconds) t))
+  atom-good s t = rw (s .kinds, good) (both _ _ (eq-eqb _ _ (s .spans)) (rw (s .firsts, s .seconds) t))
 
-  good-list : {a c p : ℕ} {rest : List ℕ} → Stands a 0 c 0 p rest → fillsIn words c (a + 1) (a + p) ≡ true → good l words a ≡ true
+  list-good : {a c p : ℕ} {rest : List ℕ} → Stands words a 0 c 0 p rest → fillsIn words c (a + 1) (a + p) ≡ true → good l words a ≡ true
   unfolding good
-  good-list s t = rw (s .kinds, good) (both _ _ (eq-eqb _ _ (s .seconds)) (rw (s .firsts, s .spans) t))
+  list-good s t = rw (s .kinds, good) (both _ _ (eq-eqb _ _ (s .seconds)) (rw (s .firsts, s .spans) t))
 
   -- in the words of a tree each node is good, and in those of a row the spans fill it too
   mutual
@@ -151,13 +152,13 @@ module _ (l : ℕ) (words : List ℕ) where
     pub node-local :
         (n : Node) (a : ℕ) (rest : List ℕ) → drop (4 * a) words ≡ table n ++ rest → lies l n ≡ true
         → (span words a ≡ size n) × Each a (a + size n)
-    node-local (atom p n) a rest e t = let s = stands a e in (s .spans, each-one (good-atom s t))
+    node-local (atom p n) a rest e t = let s = stands words a e in (s .spans, each-one (atom-good s t))
     node-local (list c) a rest e t =
-        let s = stands a e in
+        let s = stands words a e in
         let (own, each) = row-local c (a + 1) rest (s .after) t in
         let z : a + 1 + sizes c ≡ a + (1 + sizes c) = omega arith in
         let within : a + (1 + sizes c) ≤ length words / 4 = omega (arith, s .within, length-append (tables c) rest, length-tables c) in
-        (s .spans, each-join (each-one (good-list s (both _ _ (le-leb _ _ within) (rw z at own)))) (rw z at each))
+        (s .spans, each-join (each-one (list-good s (both _ _ (le-leb _ _ within) (rw z at own)))) (rw z at each))
 
     pub row-local :
         (c : Nodes) (a : ℕ) (rest : List ℕ) → drop (4 * a) words ≡ tables c ++ rest → liesAll l c ≡ true
@@ -167,21 +168,12 @@ module _ (l : ℕ) (words : List ℕ) where
         anded t λ here more.
         let e′ : drop (4 * a) words ≡ table n ++ (tables c ++ rest) = rw append-assoc at e in
         let (spans, each) = node-local n a (tables c ++ rest) e′ here in
-        let (next, others) = row-local c (a + size n) rest (skip n a (tables c ++ rest) e′) more in
+        let (next, others) = row-local c (a + size n) rest (skip words n a (tables c ++ rest) e′) more in
         let z : a + size n + sizes c ≡ a + (size n + sizes c) = omega arith in (
           rw (one-add (children c), spans)
               (both _ _ (lt-ltb a _ (omega (arith, size-pos n))) (both _ _ (le-leb 1 _ (size-pos n)) (rw z at next))),
           each-join each (rw z at others),
         )
-
-  pub holds-sound : (n : Node) → Holds l words n → HoldsTree l words
-  holds-sound n h =
-      let (spans, each) = node-local n 0 (drop (length (table n)) words) (holds-words h) (h .inText) in
-      record {
-        begun = omega (arith, size-pos n, spans);
-        fit = omega (arith, holds-fits h, spans);
-        each = λ k g. each k (omega arith) (omega (arith, spans));
-      }
 
   -- what a table that holds n has
   pub record Held (n : Node) : Type 0 where
@@ -190,10 +182,27 @@ module _ (l : ℕ) (words : List ℕ) where
     pub spans : span words 0 ≡ size n
     pub fits : 4 * size n ≤ length words
 
+  holds-held : {n : Node} → Holds l words n → Held n
+  holds-held {n} h =
+      let (spans, each) = node-local n 0 (drop (length (table n)) words) (holds-words h) (h .inText) in
+      let fits = holds-fits h in
+      record {
+        holds = h;
+        tree =
+            record {
+              begun = omega (arith, size-pos n, spans);
+              fit = omega (arith, fits, spans);
+              each = λ k g. each k (omega arith) (omega (arith, spans));
+            };
+        spans = spans;
+        fits = fits;
+      }
+
+  pub holds-sound : (n : Node) → Holds l words n → HoldsTree l words
+  holds-sound n h = holds-held h .tree
+
   pub holds-here : {n : Node} → decide l words ≡ some n → Held n
-  holds-here {n} e =
-      let h = decide-sound e in
-      record { holds = h; tree = holds-sound n h; spans = node-local n 0 (drop (length (table n)) words) (holds-words h) (h .inText) .0; fits = holds-fits h }
+  holds-here e = holds-held (decide-sound e)
 
   -- after holds_tree has answered true
   pub held : isSome (decide l words) ≡ true → (n : Node) × (decide l words ≡ some n) × Held n

@@ -24,13 +24,21 @@ use Rattle.sise_tree.proofs.LocalLaws.{stands, skip, node-local, fills-
 
 -- ---- stepping over nodes
 
+-- node i is in the table, its span ends there, and from then on there are k nodes at least
+pub record Opened (words : List ℕ) (k i : ℕ) : Type 0 where
+  pub inside : i < length words / 4
+  pub over : i + span words i ≤ length words / 4
+  count : ℕ
+  end : ℕ
+  below : k ≤ count
+  filled : fillsIn words count (i + span words i) end ≡ true
+
 module _ {words : List ℕ} {k i : ℕ} (m : MoreThan words k i) where
-  -- node i is in the table, and the next one at its end at most
-  pub more-within : (i < length words / 4) × (i + span words i ≤ length words / 4)
+  pub opened : Opened words k i
   unfolding fillsIn fills
-  more-within = of (m .count) (m .below) (m .filled)
+  opened = of (m .count) (m .below) (m .filled)
     where
-      of : (c : ℕ) → k < c → fillsIn words c i (m .end) ≡ true → (i < length words / 4) × (i + span words i ≤ length words / 4)
+      of : (c : ℕ) → k < c → fillsIn words c i (m .end) ≡ true → Opened words k i
       of zero b h = absurd (omega arith)
       of (suc c) b h =
           anded {a = leb (m .end) (length words / 4)} h λ o more.
@@ -39,20 +47,13 @@ module _ {words : List ℕ} {k i : ℕ} (m : MoreThan words k i) where
           let e : m .end ≤ length words / 4 = leb-true _ _ o in
           let l : i < m .end = ltb-true _ _ lt in
           let n : i + span words i ≤ m .end = fills-le words c (i + span words i) (m .end) next in
-          (omega arith, omega arith)
+          record { inside = omega arith; over = omega arith; count = c; end = m .end; below = omega arith; filled = both _ _ o next }
 
   -- w is the span that the code has read
   pub more-step : {w : ℕ} → w ≡ span words i → 0 < k → MoreThan words (k - 1) (i + w)
-  unfolding fillsIn fills
-  more-step {w} r z = of (m .count) (m .below) (m .filled)
-    where
-      of : (c : ℕ) → k < c → fillsIn words c i (m .end) ≡ true → MoreThan words (k - 1) (i + w)
-      of zero b h = absurd (omega arith)
-      of (suc c) b h =
-          anded {a = leb (m .end) (length words / 4)} h λ o more.
-          anded {a = ltb i (m .end)} more λ lt more.
-          anded {a = leb 1 (span words i)} more λ some next.
-          record { count = c; end = m .end; below = omega arith; filled = both _ _ o (rw r next) }
+  more-step r z =
+      let o = opened in
+      record { count = o .count; end = o .end; below = omega (arith, o .below); filled = rw r (o .filled) }
 
 pub stepped-on : (words : List ℕ) (k i : ℕ) {w : ℕ} → w ≡ span words i → 0 < k → stepped words (k - 1) (i + w) ≡ stepped words k i
 unfolding stepped
@@ -99,7 +100,7 @@ module _ (l : ℕ) (words : List ℕ) where
   find (n then c) i (suc k) rest e t h =
       let e′ : drop (4 * i) words ≡ table n ++ (tables c ++ rest) = rw append-assoc at e in
       let spans = node-local l words n i (tables c ++ rest) e′ (and-first _ _ t) .0 in
-      let f = find c (i + size n) k rest (skip l words n i (tables c ++ rest) e′) (and-second (lies l n) _ t) (omega arith) in
+      let f = find c (i + size n) k rest (skip words n i (tables c ++ rest) e′) (and-second (lies l n) _ t) (omega arith) in
       rw spans (record { node = f .node; stood = f .stood; same = f .same })
 
 -- ---- the code's way
@@ -110,6 +111,11 @@ pub record At (words text path : List ℕ) (i k : ℕ) : Type 0 where
   node : Node
   stood : Stood (length text) words node i
   same : indexPath words text path ≡ indexed (nodeAt node i (drop k path))
+
+reached :
+    {words text path : List ℕ} {i k : ℕ} (n : Node) → Stood (length text) words n i → indexPath words text path ≡ indexed (nodeAt n i (drop k path))
+    → At words text path i k
+reached {words} {text} n s e = record { within = stood-within (length text) words s; node = n; stood = s; same = e }
 
 module _ (words text path : List ℕ) where
   pub too-long : longest < length text → indexPath words text path ≡ refusedWith 13
@@ -132,14 +138,8 @@ module _ (words text path : List ℕ) where
     pub at-root : isSome (decide (length text) words) ≡ true → At words text path 0 0
     at-root t =
         let (n, e, h) = held (length text) words t in
-        let s : Stood (length text) words n 0 =
-        record { rest = drop (length (table n)) words; begins = holds-words (h .holds); inText = h .holds .inText }
-        in record {
-          within = stood-within (length text) words s;
-          node = n;
-          stood = s;
-          same = as-decided ∙ ap (λ (d : Option Node). indexedIn d path) e;
-        }
+        reached n (record { rest = drop (length (table n)) words; begins = holds-words (h .holds); inText = h .holds .inText })
+        (as-decided ∙ ap (λ (d : Option Node). indexedIn d path) e)
 
 node-here : (n : Node) (i : ℕ) → nodeAt n i [] ≡ some i
 unfolding nodeAt
@@ -162,7 +162,7 @@ module _ {words text path : List ℕ} {i k : ℕ} (a : At words text path i k) w
         of : (n : Node) → Stood (length text) words n i → indexed (nodeAt n i (getD path k 0 ∷ drop (k + 1) path)) ≡ refusedWith 16
         of (atom p m) s = refl
         of (list c) s =
-            let e = stands (length text) words i (s .begins) in
+            let e = stands words i (s .begins) in
             ap indexed (no-child c (i + 1) (getD path k 0) (drop (k + 1) path) (omega (arith, e .firsts, h (e .kinds))))
 
     -- w is the number of children that the code has read
@@ -181,8 +181,8 @@ module _ {words text path : List ℕ} {i k : ℕ} (a : At words text path i k) w
           of :
               (n : Node) → Stood (length text) words n i → indexPath words text path ≡ indexed (nodeAt n i (getD path k 0 ∷ drop (k + 1) path))
               → At words text path (stepped words (getD path k 0) (i + 1)) (k + 1)
-          of (atom p m) s e = absurd (omega (arith, stands (length text) words i (s .begins) .kinds))
+          of (atom p m) s e = absurd (omega (arith, stands words i (s .begins) .kinds))
           of (list c) s e =
-              let w = stands (length text) words i (s .begins) in
+              let w = stands words i (s .begins) in
               let f = find (length text) words c (i + 1) (getD path k 0) (s .rest) (w .after) (s .inText) (omega (arith, r, w .firsts)) in
-              record { within = stood-within (length text) words (f .stood); node = f .node; stood = f .stood; same = e ∙ ap indexed (f .same (drop (k + 1) path)) }
+              reached (f .node) (f .stood) (e ∙ ap indexed (f .same (drop (k + 1) path)))

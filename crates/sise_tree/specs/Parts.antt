@@ -20,6 +20,6 @@ stepped words (suc k) i = stepped words k (i + span words i)
 -- from node i on there are more than k nodes, whose spans end in the table
 pub record MoreThan (words : List ℕ) (k i : ℕ) : Type 0 where
   pub count : ℕ
-  pub «end» : ℕ
+  pub end : ℕ
   pub below : k < count
-  pub filled : fillsIn words count i «end» ≡ true
+  pub filled : fillsIn words count i end ≡ true

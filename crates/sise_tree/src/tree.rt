@@ -116,6 +116,20 @@ pub fn holds_tree(text_len: usize, table: &[u32]) -> bool
     true
 }
 
+// The node that comes after `index` nodes, from node `first` on.
+fn child(table: &[u32], first: usize, index: u64) -> usize
+    requires { ⌜ MoreThan (now table) index first ⌝ }
+    ensures { λ r. ⌜ r ≡ stepped (now (table .entry)) index first ⌝ }
+{
+    let mut at = first;
+    let mut left = index;
+    while left > 0 {
+        at += word(table, at, 3);
+        left -= 1;
+    }
+    at
+}
+
 // The node at the end of the path: its index in the table. An index of the path counts a list's children from 0.
 pub fn index_path(table: &[u32], text: &[u8], path: &[u64]) -> Indexed
     ensures { λ r. ⌜ indexedAs r ≡ indexPath (now (table .entry)) (now (text .entry)) (now (path .entry)) ⌝ }
@@ -140,18 +154,4 @@ pub fn index_path(table: &[u32], text: &[u8], path: &[u64]) -> Indexed
         k += 1;
     }
     Indexed::Node(at)
-}
-
-// The node that comes after `index` nodes, from node `first` on.
-fn child(table: &[u32], first: usize, index: u64) -> usize
-    requires { ⌜ MoreThan (now table) index first ⌝ }
-    ensures { λ r. ⌜ r ≡ stepped (now (table .entry)) index first ⌝ }
-{
-    let mut at = first;
-    let mut left = index;
-    while left > 0 {
-        at += word(table, at, 3);
-        left -= 1;
-    }
-    at
 }

@@ -3,7 +3,7 @@
 use mathlib.Core.Path.{_≡_, refl, sym, _∙_}
 use borrow.Author.Needs.{needs}
 use Rattle.sise_tree.specs.Parts.{stepped, MoreThan}
-use Rattle.sise_tree.proofs.PathLaws.{more-within, more-step, stepped-on, stepped-none}
+use Rattle.sise_tree.proofs.PathLaws.{opened, more-step, stepped-on, stepped-none}
 use Rattle.sise_tree.proofs.tree.child.Statement.{statement}
 use Rattle.sise_tree.proofs.tree.child.Tie as tie
 
@@ -17,10 +17,10 @@ loop-holds : tie.Need-loop-holds Inv-loop μ-loop
 loop-holds c = (c .before .pre, refl)
 
 word-requires : tie.Need-word-requires Inv-loop μ-loop
-word-requires c κs = let (within, next) = more-within (c .before .loop .inv .0) in search needs
+word-requires c κs = let o = opened (c .before .loop .inv .0) in search needs
 
 add-at : tie.Need-add-at Inv-loop μ-loop
-add-at c = let (within, next) = more-within (c .before .before .loop .inv .0) in search needs
+add-at c = let o = opened (c .before .before .loop .inv .0) in search needs
 
 sub-left : tie.Need-sub-left Inv-loop μ-loop
 sub-left c = search needs
