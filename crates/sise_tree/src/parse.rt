@@ -174,14 +174,15 @@ pub fn parse_tree(text: &[u8], reader: Reader, table: &mut [u32]) -> TreeRead
     }
     let counted = count_nodes(text, reader);
     let answer = counted.answer;
-    if let ParsedTree::Nodes(nodes) = answer {
-        if nodes > table.len() / 4 {
-            return TreeRead {
-                reader,
-                answer: ParsedTree::TableFull,
-            };
-        }
-        fill_nodes(text, reader, table);
+    let ParsedTree::Nodes(nodes) = answer else {
+        return counted;
+    };
+    if nodes > table.len() / 4 {
+        return TreeRead {
+            reader,
+            answer: ParsedTree::TableFull,
+        };
     }
+    fill_nodes(text, reader, table);
     counted
 }
