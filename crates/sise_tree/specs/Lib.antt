@@ -7,3 +7,4 @@ pub mod SerializeTree
 pub mod Parts
 pub mod Filling
 pub mod Descent
+pub mod ParseExamples
