@@ -13,3 +13,4 @@ pub mod FillingTurns
 pub mod Descent
 pub mod ParseLaws
 pub mod FillingLoop
+pub mod ParseCases

@@ -42,7 +42,15 @@ putAs WritingFinished = refusedWith 19
 putAs TooDeep = refusedWith 21
 putAs NoRoom = refusedWith 22
 
--- document 01's number of a refusal, 0 for none
+-- a refusal's number, place and code point, 0 where there is none
 abbrev pub numberOf : Answer → ℕ
 numberOf (answered n) = 0
-numberOf (refused r) = r .number
+numberOf (refused e) = e .number
+
+abbrev pub placeOf : Answer → ℕ
+placeOf (answered n) = 0
+placeOf (refused e) = e .place
+
+abbrev pub codeOf : Answer → ℕ
+codeOf (answered n) = 0
+codeOf (refused e) = e .code

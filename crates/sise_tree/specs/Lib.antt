@@ -10,3 +10,4 @@ pub mod Alike
 pub mod Rows
 pub mod TableExamples
 pub mod Filling
+pub mod ParseExamples

@@ -8,6 +8,7 @@ use sise_parser::Reader;
 ghost use mathlib.Core.Path.{_≡_};
 ghost use Prim.Native.Nat.{_<_, _/_};
 ghost use lib.ListN.{length};
+ghost use Rattle.sise_tree.specs.Answers.{parsedAs, numberOf, placeOf, codeOf};
 ghost use Rattle.sise_tree.specs.ParseTree.{readNode, parseTree, DoesParse};
 ghost use Rattle.sise_tree.specs.Filling.{DoesCount, putAt, CanAttach, Attaches, CanClose, Closes, CanTurn, Turns, CanFill, DoesFill};
 
@@ -20,6 +21,47 @@ pub enum ParsedTree {
     UnexpectedListEnd { pos: usize },
     TextTooLong,
     TableFull,
+}
+
+impl ParsedTree {
+    // Document 01's number, 0 for a node.
+    pub fn number(self) -> u32
+        ensures { λ r. ⌜ r ≡ numberOf (parsedAs self) ⌝ }
+    {
+        match self {
+            ParsedTree::Nodes(_) => 0,
+            ParsedTree::Refused(error) => error.number(),
+            ParsedTree::UnexpectedListEnd { .. } => 12,
+            ParsedTree::TextTooLong => 13,
+            ParsedTree::TableFull => 14,
+        }
+    }
+
+    // The place, 0 where there is none.
+    pub fn place(self) -> usize
+        ensures { λ r. ⌜ r ≡ placeOf (parsedAs self) ⌝ }
+    {
+        match self {
+            ParsedTree::Nodes(_) => 0,
+            ParsedTree::Refused(error) => error.place(),
+            ParsedTree::UnexpectedListEnd { pos } => pos,
+            ParsedTree::TextTooLong => 0,
+            ParsedTree::TableFull => 0,
+        }
+    }
+
+    // The code point, 0 where there is none.
+    pub fn code(self) -> u32
+        ensures { λ r. ⌜ r ≡ codeOf (parsedAs self) ⌝ }
+    {
+        match self {
+            ParsedTree::Nodes(_) => 0,
+            ParsedTree::Refused(error) => error.code(),
+            ParsedTree::UnexpectedListEnd { .. } => 0,
+            ParsedTree::TextTooLong => 0,
+            ParsedTree::TableFull => 0,
+        }
+    }
 }
 
 // What parse_tree hands back.
@@ -174,14 +216,15 @@ pub fn parse_tree(text: &[u8], reader: Reader, table: &mut [u32]) -> TreeRead
     }
     let counted = count_nodes(text, reader);
     let answer = counted.answer;
-    if let ParsedTree::Nodes(nodes) = answer {
-        if nodes > table.len() / 4 {
-            return TreeRead {
-                reader,
-                answer: ParsedTree::TableFull,
-            };
-        }
-        fill_nodes(text, reader, table);
+    let ParsedTree::Nodes(nodes) = answer else {
+        return counted;
+    };
+    if nodes > table.len() / 4 {
+        return TreeRead {
+            reader,
+            answer: ParsedTree::TableFull,
+        };
     }
+    fill_nodes(text, reader, table);
     counted
 }
