@@ -18,16 +18,16 @@ ghost use Rattle.sise_serializer.specs.Steps.{joined, Steps, putToken};
 // The most open lists.
 const DEEPEST: usize = 200;
 
-// The writer's record without its flags.
+// The writer's record without its flags. The two small fields come last: a copy of the bytes between a small field and a large one is slow.
 pub struct Progress {
     pub position: usize,
-    pub phase: Phase,
     pub lists: usize,
-    pub list_beginning: bool,
     pub line_len: usize,
     pub spaces: usize,
     pub breaks: usize,
     pub indents: usize,
+    pub phase: Phase,
+    pub list_beginning: bool,
 }
 
 // What a step hands back.
