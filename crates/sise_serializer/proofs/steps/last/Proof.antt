@@ -29,7 +29,9 @@ slice-aggregate-place-2 : tie.Need-slice-aggregate-place-2
 slice-aggregate-place-2 c = search needs
 
 place-requires : tie.Need-place-requires
-place-requires c κs = search needs
+place-requires c κs =
+    let one = c .before .before .before in
+    omega (arith, one .one-if .ensures, one-at-most (start one .args .insert-line-break))
 
 enum-known-at : tie.Need-enum-known-at
 enum-known-at c = search needs
