@@ -44,6 +44,9 @@ add-t21 c =
 enum-told : tie.Need-enum-told
 enum-told c = search needs
 
+refused-requires : tie.Need-refused-requires
+refused-requires c κs = search needs
+
 same-length : tie.Need-same-length
 same-length c = search needs
 
@@ -66,10 +69,10 @@ returns-2 : tie.Need-returns-2
 unfolding last
 returns-2 c =
     λ flags.
-    let pl = c .before .before .before .before in
+    let pl = c .before .before .before .before .before in
     let one = pl .before .before .before .before in
     let a = start one .args in
-    full-steps (a .progress) flags (a .commit) (a .buf .now) (piece (start one) flags) (last-placed (a .insert-line-break) (a .line-break .now) (one .one-if .ensures) (pl .place .ensures)) (c .enum-told .given .1)
+    full-steps (a .progress) flags (a .commit) (a .buf .now) (piece (start one) flags) (last-placed (a .insert-line-break) (a .line-break .now) (one .one-if .ensures) (pl .place .ensures)) (c .refused .ensures) (c .before .enum-told .given .1)
 
 pub last-spec : {M : Type 1} → statement M
 last-spec =
@@ -82,6 +85,7 @@ last-spec =
     enum-known-at
     add-t21
     enum-told
+    refused-requires
     same-length
     returns
     same-length-2
