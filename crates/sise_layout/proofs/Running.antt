@@ -1,27 +1,36 @@
 -- What is left of a list of calls while it runs: each call's words are taken from the front, and its answer's word is set at its index, so what running
 -- the rest leaves stays the same.
 -- Assumes nothing.
-use Prim.Native.Nat.{ℕ, suc, _+_, _-_, _≤_, _<_}
+use Prim.Native.Nat.{ℕ, suc, _+_, _-_, _^_, _≤_, _<_}
 use native.Mathlib.Nat.{add-zero, zero-add}
 use native.Mathlib.Omega.{arith}
 use mathlib.Core.Path.{_≡_, refl, sym, ap, _∙_}
-use mathlib.Core.Bool.{Bool, true, false, _&&_, cond}
+use mathlib.Core.Bool.{Bool, true, false, _&&_, not, cond}
+use mathlib.Core.Logic.{⊎-elim}
 use mathlib.Core.List.{List, [], _∷_, _++_, map}
-use lib.Dec.{leb}
+use lib.Dec.{leb, eqb}
 use lib.ListN.{length, getD, take, drop, set, length-drop, length-set}
 use lib.Seq.{take-nil, drop-cons, take-suc-set, drop-set-lt, append-snoc}
+use types.Run.{OneOf}
+use denote.Enum.Declared.{tagOf}
 use borrow.Author.Tests.{leb-true, leb-false, le-leb, lt-leb, eq-eqb, ne-eqb}
 use Rattle.sise_parser.specs.Reader.{partOf}
 use Rattle.sise_util.proofs.Ranges.{and-first, and-second}
 use Rattle.sise_serializer.specs.Bytes.{pasted}
-use Rattle.sise_serializer.specs.Serializer.{Style, answerAs, Does, freshSerializer}
+use Rattle.sise_serializer.specs.Serializer.{Style, answerAs, numberOf, freshSerializer}
 use Rattle.sise_serializer.specs.declared.serializer.Serializer.{Serializer}
-use Rattle.sise_serializer.specs.declared.serializer.Wrote.{Wrote}
+use Rattle.sise_serializer.specs.declared.serializer.Put.{Put}
+use Rattle.sise_serializer.specs.declared.serializer.Put.the-variants.{At, UnsoundRecord, InvalidAtom, NoListToEnd, WritingFinished, WritingNotFinished, TooDeep, NoRoom}
+use Rattle.sise_serializer.proofs.serializer.Put as puts
 use Rattle.sise_serializer.proofs.Bytes.{pasted-none}
 use Rattle.sise_layout.specs.Calls.{Call, putAtomCall, beginListCall, endListCall, finishCall, step, run, writing}
 use Rattle.sise_layout.specs.Words.{callOf, callAt, hasCall, decoded, callsOf, answerWord, Runs}
 
 -- ---- the call of a kind
+
+finish-by : (b : Bool) → cond b (finishCall false) (finishCall true) ≡ finishCall (not b)
+finish-by true = refl
+finish-by false = refl
 
 module _ (words atoms : List ℕ) (at : ℕ) where
   pub call-atom : getD words at 0 ≡ 0 → callAt words atoms at ≡ putAtomCall (partOf atoms (getD words (at + 1) 0) (getD words (at + 2) 0)) (getD words (at + 3) 0)
@@ -36,13 +45,9 @@ module _ (words atoms : List ℕ) (at : ℕ) where
   unfolding callOf
   call-end a b e = rw (ne-eqb _ _ a, ne-eqb _ _ b, eq-eqb _ _ e)
 
-  pub call-finish : (getD words at 0 ≡ 0 → ⊥) → (getD words at 0 ≡ 1 → ⊥) → (getD words at 0 ≡ 2 → ⊥) → getD words at 0 ≡ 3 → callAt words atoms at ≡ finishCall false
+  pub call-finish : (getD words at 0 ≡ 0 → ⊥) → (getD words at 0 ≡ 1 → ⊥) → (getD words at 0 ≡ 2 → ⊥) → callAt words atoms at ≡ finishCall (not (eqb (getD words at 0) 3))
   unfolding callOf
-  call-finish a b c e = rw (ne-eqb _ _ a, ne-eqb _ _ b, ne-eqb _ _ c, eq-eqb _ _ e)
-
-  pub call-break : (getD words at 0 ≡ 0 → ⊥) → (getD words at 0 ≡ 1 → ⊥) → (getD words at 0 ≡ 2 → ⊥) → (getD words at 0 ≡ 3 → ⊥) → callAt words atoms at ≡ finishCall true
-  unfolding callOf
-  call-break a b c d = rw (ne-eqb _ _ a, ne-eqb _ _ b, ne-eqb _ _ c, ne-eqb _ _ d)
+  call-finish a b c = rw (ne-eqb _ _ a, ne-eqb _ _ b, ne-eqb _ _ c) (finish-by (eqb (getD words at 0) 3))
 
 -- ---- words
 
@@ -112,6 +117,22 @@ pasted-cons l k x xs h =
     ∙ ap (λ (q : List ℕ). take k l ++ (x ∷ []) ++ xs ++ q) (drop-set-lt (k + 1 + length xs) l k x (omega arith))
     ∙ ap (λ (p : List ℕ). p ++ drop (k + 1 + length xs) l) (append-snoc (take k l) x xs)
     ∙ ap (λ (m : ℕ). take k l ++ (x ∷ xs) ++ drop m l) n)
+
+-- zero is none of some numbers from one on
+no-zero : (k : ℕ) (l : List ℕ) → OneOf (suc k ∷ map suc l) 0 → ⊥
+no-zero k [] e = omega arith
+no-zero k (j ∷ l) e = ⊎-elim (λ (z : 0 ≡ suc k). omega arith) (no-zero j l) e
+
+-- every answer but an offset is a refusal
+pub refusal-word : (p : Put) → OneOf (1 ∷ 2 ∷ 3 ∷ 4 ∷ 5 ∷ 6 ∷ 7 ∷ []) (tagOf puts.the-type p) → 2 ^ 32 + numberOf (answerAs p) ≡ answerWord (answerAs p)
+refusal-word (At o) k = absurd (no-zero 0 (1 ∷ 2 ∷ 3 ∷ 4 ∷ 5 ∷ 6 ∷ []) k)
+refusal-word UnsoundRecord k = refl
+refusal-word InvalidAtom k = refl
+refusal-word NoListToEnd k = refl
+refusal-word WritingFinished k = refl
+refusal-word WritingNotFinished k = refl
+refusal-word TooDeep k = refl
+refusal-word NoRoom k = refl
 
 -- ---- running
 
@@ -187,10 +208,11 @@ module _ {s : Style} {words atoms b₀ a₀ b a : List ℕ} {w : Serializer} {k 
   stopped h = finished (ap (take (length a₀ - k)) (rest-none words atoms at (l .place) h) ∙ take-nil (length a₀ - k))
 
   -- one call more
-  pub on : {r : Wrote} {bx : List ℕ} {x : ℕ} → k < length a → hasCall words at ≡ true
-      → Does (step s (length b) w (callAt words atoms at)) w b r bx → x ≡ answerWord (answerAs (r .answer)) → length bx ≡ length b
-      → Left s words atoms b₀ a₀ bx (set a k x) (r .serializer) (k + 1) (at + 4)
-  on {r} {bx} {x} h has does told keeps =
+  pub on : {v : Serializer} {bx : List ℕ} {x : ℕ} → k < length a → hasCall words at ≡ true
+      → v ≡ step s (length b) w (callAt words atoms at) .serializer → x ≡ answerWord (step s (length b) w (callAt words atoms at) .answer)
+      → bx ≡ pasted b (w .position) (step s (length b) w (callAt words atoms at) .bytes) → length bx ≡ length b
+      → Left s words atoms b₀ a₀ bx (set a k x) v (k + 1) (at + 4)
+  on {v} {bx} {x} h has left told wrote keeps =
       let e = l .answers-length in
       let c = callAt words atoms at in
       let d = step s (length b) w c in
@@ -199,9 +221,9 @@ module _ {s : Style} {words atoms b₀ a₀ b a : List ℕ} {w : Serializer} {k 
       let split : take (length a₀ - k) (decoded (drop at words) atoms) ≡ c ∷ cs = ap (take (length a₀ - k)) (rest-call words atoms at (l .place) has) ∙ ap (λ (n : ℕ). take n (c ∷ decoded (drop (at + 4) words) atoms)) z in
       record {
         same =
-            ap (λ (y : List ℕ). final s y (r .serializer) (set a k x) (k + 1) cs) (does .buffer)
-            ∙ ap (λ (y : Serializer). final s (pasted b (w .position) (d .bytes)) y (set a k x) (k + 1) cs) (does .serializer)
-            ∙ ap (λ (y : ℕ). final s (pasted b (w .position) (d .bytes)) (d .serializer) (set a k y) (k + 1) cs) (told ∙ ap answerWord (does .answer))
+            ap (λ (y : List ℕ). final s y v (set a k x) (k + 1) cs) wrote
+            ∙ ap (λ (y : Serializer). final s (pasted b (w .position) (d .bytes)) y (set a k x) (k + 1) cs) left
+            ∙ ap (λ (y : ℕ). final s (pasted b (w .position) (d .bytes)) (d .serializer) (set a k y) (k + 1) cs) told
             ∙ sym (final-more s b w a k c cs h)
             ∙ sym (ap (final s b w a k) split)
             ∙ l .same;

@@ -1,12 +1,20 @@
 // A whole list of the writer's calls, as numbers: four words a call, and one word for each answer.
 use sise_parser::atom_bytes;
+use sise_serializer::Progress;
 use sise_serializer::Put;
 use sise_serializer::Serializer;
-use sise_serializer::Wrote;
+use sise_serializer::Step;
+use sise_serializer::begin_step;
+use sise_serializer::end_step;
+use sise_serializer::finish_step;
+use sise_serializer::fresh_progress;
+use sise_serializer::put_atom_step;
 ghost use mathlib.Core.Path.{_≡_};
+ghost use mathlib.Core.Bool.{true};
 ghost use Prim.Native.Nat.{_+_, _≤_};
 ghost use lib.ListN.{length};
-ghost use Rattle.sise_serializer.specs.Serializer.{style, answerAs, Does};
+ghost use Rattle.sise_serializer.specs.Serializer.{style, answerAs};
+ghost use Rattle.sise_serializer.specs.Steps.{joined, Steps};
 ghost use Rattle.sise_layout.specs.Calls.{step, writing};
 ghost use Rattle.sise_layout.specs.Words.{callAt, hasCall, callsOf, answerWord, Runs};
 
@@ -20,16 +28,10 @@ pub struct Ran {
 fn put_word(answer: Put) -> u64
     ensures { λ r. ⌜ r ≡ answerWord (answerAs answer) ⌝ }
 {
-    match answer {
-        Put::At(offset) => offset as u64,
-        Put::UnsoundRecord => 4294967307,
-        Put::InvalidAtom => 4294967313,
-        Put::NoListToEnd => 4294967314,
-        Put::WritingFinished => 4294967315,
-        Put::WritingNotFinished => 4294967316,
-        Put::TooDeep => 4294967317,
-        Put::NoRoom => 4294967318,
+    if let Put::At(offset) = answer {
+        return offset as u64;
     }
+    4294967296 + answer.number() as u64
 }
 
 // Whether a call's four words stand at `at`: they do not if fewer are left, or if the kind is above 4.
@@ -45,16 +47,17 @@ fn has_call(words: &[u64], at: usize) -> bool
 
 // Runs the call whose four words stand at `at`.
 fn run_call(
-    w: Serializer,
+    progress: Progress,
+    flags: &mut [bool; 200],
     words: &[u64],
     at: usize,
     atoms: &[u8],
     line_break: &[u8],
     indentation: &[u8],
     buf: &mut [u8],
-) -> Wrote
+) -> Step
     requires { ⌜ at + 4 ≤ length (now words) ⌝ }
-    ensures { λ r. ⌜ Does (step (style (now («line_break» .entry)) (now (indentation .entry))) (length (now (buf .entry))) w (callAt (now (words .entry)) (now (atoms .entry)) at)) w (now (buf .entry)) r (now (buf .exit)) ⌝ }
+    ensures { λ r. ⌜ Steps (step (style (now («line_break» .entry)) (now (indentation .entry))) (length (now (buf .entry))) (joined progress (now (flags .entry))) (callAt (now (words .entry)) (now (atoms .entry)) at)) (joined progress (now (flags .entry))) true (now (buf .entry)) r (now (flags .exit)) (now (buf .exit)) ⌝ }
 {
     let kind = words[at];
     let place = words[at + 1];
@@ -62,15 +65,38 @@ fn run_call(
     let threshold = words[at + 3];
     if kind == 0 {
         let atom = atom_bytes(atoms, place as usize, len as usize);
-        w.put_atom(line_break, indentation, buf, atom, threshold)
+        put_atom_step(
+            progress,
+            flags,
+            line_break,
+            indentation,
+            buf,
+            atom,
+            threshold,
+            true,
+        )
     } else if kind == 1 {
-        w.begin_list(line_break, indentation, buf, threshold)
+        begin_step(
+            progress,
+            flags,
+            line_break,
+            indentation,
+            buf,
+            threshold,
+            true,
+        )
     } else if kind == 2 {
-        w.end_list(line_break, indentation, buf)
-    } else if kind == 3 {
-        w.finish(line_break, indentation, buf, false)
+        end_step(progress, flags, line_break, indentation, buf, true)
     } else {
-        w.finish(line_break, indentation, buf, true)
+        finish_step(
+            progress,
+            flags,
+            line_break,
+            indentation,
+            buf,
+            kind != 3,
+            true,
+        )
     }
 }
 
@@ -86,19 +112,29 @@ pub fn write_calls(
 ) -> Ran
     ensures { λ r. ⌜ Runs (writing (style (now («line_break» .entry)) (now (indentation .entry))) (now (buf .entry)) (callsOf (now (words .entry)) (now (atoms .entry)) (length (now (answers .entry))))) (callsOf (now (words .entry)) (now (atoms .entry)) (length (now (answers .entry)))) (now (answers .entry)) (r .serializer) (r .calls) (now (buf .exit)) (now (answers .exit)) ⌝ }
 {
-    let mut w = Serializer::new();
+    let mut progress = fresh_progress();
+    let mut flags = [false; 200];
     let mut k = 0;
     let mut at = 0;
     while k < answers.len() && has_call(words, at) {
-        let wrote = run_call(w, words, at, atoms, line_break, indentation, buf);
-        let answer = wrote.answer;
+        let step = run_call(
+            progress,
+            &mut flags,
+            words,
+            at,
+            atoms,
+            line_break,
+            indentation,
+            buf,
+        );
+        let answer = step.answer;
         answers[k] = put_word(answer);
-        w = wrote.serializer;
+        progress = step.progress;
         k += 1;
         at += 4;
     }
     Ran {
-        serializer: w,
+        serializer: progress.join(flags),
         calls: k,
     }
 }

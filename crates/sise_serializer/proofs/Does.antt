@@ -37,9 +37,9 @@ full-kept false before = refl
 
 module _ (p : Progress) (flags : List Bool) (commit : Bool) (before : List ℕ) where
   -- a refusal changes nothing
-  pub refused-steps : (n : ℕ) (a : Put) → answerAs a ≡ refused n
-      → Steps (refuse n (joined p flags)) (joined p flags) commit before (record { progress = p; answer = a }) flags before
-  refused-steps n a e = record { serializer = refl; answer = e; buffer = unwritten commit before (p .position) }
+  pub refused-steps : (n : ℕ) {a : Put} {x : Step} → x ≡ record { progress = p; answer = a } → answerAs a ≡ refused n
+      → Steps (refuse n (joined p flags)) (joined p flags) commit before x flags before
+  refused-steps n g e = record { serializer = ap (λ (x : Step). joined (x .progress) flags) g; answer = ap (λ (x : Step). answerAs (x .answer)) g ∙ e; buffer = unwritten commit before (p .position) }
 
   module _ (b : Piece) {r : Spot} {now : List ℕ} (h : Placed before (p .position) (b .layout) (b .token) commit r now) where
     -- a piece with room
@@ -53,12 +53,13 @@ module _ (p : Progress) (flags : List Bool) (commit : Bool) (before : List ℕ) 
         (record { serializer = q (f .end); answer = ap Answer.accepted (f .offset); buffer = rw t at (h .buffer) })
 
     -- a piece without room
-    pub full-steps : r ≡ spot.NoRoom → Steps (place (length before) (joined p flags) b) (joined p flags) commit before (record { progress = p; answer = put.NoRoom }) flags now
+    pub full-steps : {x : Step} → x ≡ record { progress = p; answer = put.NoRoom } → r ≡ spot.NoRoom
+        → Steps (place (length before) (joined p flags) b) (joined p flags) commit before x flags now
     unfolding place
-    full-steps t =
+    full-steps g t =
         let same : now ≡ cond commit before before = rw t at (h .buffer) in
         rw (not-found (length before) (p .position) (length (b .layout)) (length (b .token)) (sym t ∙ h .spot))
-        (record { serializer = refl; answer = refl; buffer = same ∙ full-kept commit before ∙ unwritten commit before (p .position) })
+        (record { serializer = ap (λ (x : Step). joined (x .progress) flags) g; answer = ap (λ (x : Step). answerAs (x .answer)) g; buffer = same ∙ full-kept commit before ∙ unwritten commit before (p .position) })
 
 -- a step that commits does what a call does, once its record and its flags are packed
 pub step-does : (d : Serializer → Written) {v w : Serializer} {before now : List ℕ} {r : Step} {flags : List Bool} {x : Wrote} → v ≡ w → Steps (d v) v true before r flags now
@@ -108,8 +109,9 @@ module _ (s : Style) (p : Progress) (flags : List Bool) (commit : Bool) {b : Boo
   unfolding closeAs
   closed-steps k q = rw close-is (placed-steps p flags commit before (closeAs s (joined p flags) b) h k (λ x. rw x at q))
 
-  pub close-full-steps : r ≡ spot.NoRoom → Steps (place (length before) (joined p flags) (close s (joined p flags))) (joined p flags) commit before (record { progress = p; answer = put.NoRoom }) flags now
-  close-full-steps k = rw close-is (full-steps p flags commit before (closeAs s (joined p flags) b) h k)
+  pub close-full-steps : {x : Step} → x ≡ record { progress = p; answer = put.NoRoom } → r ≡ spot.NoRoom
+      → Steps (place (length before) (joined p flags) (close s (joined p flags))) (joined p flags) commit before x flags now
+  close-full-steps g k = rw close-is (full-steps p flags commit before (closeAs s (joined p flags) b) h g k)
 
 -- ---- the end of the text: a wished line break is one of one, another one of none
 

@@ -21,17 +21,17 @@ pub enum Phase {
 // The writer's record, which each call takes and hands back.
 pub struct Serializer {
     pub position: usize,
-    pub phase: Phase,
     // How many lists are open.
     pub lists: usize,
-    // Whether a line was broken in an open list: the outermost list's flag first, and false past the innermost.
-    pub line_broken: [bool; 200],
-    pub list_beginning: bool,
     pub line_len: usize,
     // What layout has been written: spaces, line breaks and indentations.
     pub spaces: usize,
     pub breaks: usize,
     pub indents: usize,
+    // Whether a line was broken in an open list: the outermost list's flag first, and false past the innermost.
+    pub line_broken: [bool; 200],
+    pub phase: Phase,
+    pub list_beginning: bool,
 }
 
 // What a call answers: the offset of what it wrote, or a refusal.

@@ -18,16 +18,16 @@ ghost use Rattle.sise_serializer.specs.Steps.{joined, Steps, putToken};
 // The most open lists.
 const DEEPEST: usize = 200;
 
-// The writer's record without its flags.
+// The writer's record without its flags. The two small fields come last, so that few bytes are unused.
 pub struct Progress {
     pub position: usize,
-    pub phase: Phase,
     pub lists: usize,
-    pub list_beginning: bool,
     pub line_len: usize,
     pub spaces: usize,
     pub breaks: usize,
     pub indents: usize,
+    pub phase: Phase,
+    pub list_beginning: bool,
 }
 
 // What a step hands back.
@@ -123,6 +123,26 @@ impl Progress {
     }
 }
 
+// A refusal leaves the record. It is made anew field by field: to copy the whole, with the unused bytes in it, is slower.
+fn refused(progress: Progress, answer: Put) -> Step
+    ensures { λ r. ⌜ r ≡ record { progress = progress; answer = answer } ⌝ }
+{
+    let phase = progress.phase;
+    Step {
+        progress: Progress {
+            position: progress.position,
+            phase,
+            lists: progress.lists,
+            list_beginning: progress.list_beginning,
+            line_len: progress.line_len,
+            spaces: progress.spaces,
+            breaks: progress.breaks,
+            indents: progress.indents,
+        },
+        answer,
+    }
+}
+
 // ---- an atom or a list as the first item
 
 fn first_atom(progress: Progress, buf: &mut [u8], atom: &[u8], commit: bool) -> Step
@@ -143,10 +163,7 @@ fn first_atom(progress: Progress, buf: &mut [u8], atom: &[u8], commit: bool) -> 
             },
             answer: Put::At(at),
         },
-        Spot::NoRoom => Step {
-            progress,
-            answer: Put::NoRoom,
-        },
+        Spot::NoRoom => refused(progress, Put::NoRoom),
     }
 }
 
@@ -171,10 +188,7 @@ fn first_list(progress: Progress, flags: &mut [bool; 200], buf: &mut [u8], commi
                 answer: Put::At(at),
             }
         }
-        Spot::NoRoom => Step {
-            progress,
-            answer: Put::NoRoom,
-        },
+        Spot::NoRoom => refused(progress, Put::NoRoom),
     }
 }
 
@@ -247,10 +261,7 @@ fn on_new_line(
                 answer: Put::At(at),
             }
         }
-        Spot::NoRoom => Step {
-            progress,
-            answer: Put::NoRoom,
-        },
+        Spot::NoRoom => refused(progress, Put::NoRoom),
     }
 }
 
@@ -287,10 +298,7 @@ fn in_line(
                 answer: Put::At(at),
             }
         }
-        Spot::NoRoom => Step {
-            progress,
-            answer: Put::NoRoom,
-        },
+        Spot::NoRoom => refused(progress, Put::NoRoom),
     }
 }
 
@@ -358,14 +366,8 @@ fn put_sound(
             break_line_at,
             commit,
         ),
-        Phase::Finished => Step {
-            progress,
-            answer: Put::WritingFinished,
-        },
-        Phase::Done => Step {
-            progress,
-            answer: Put::WritingFinished,
-        },
+        Phase::Finished => refused(progress, Put::WritingFinished),
+        Phase::Done => refused(progress, Put::WritingFinished),
     }
 }
 
@@ -383,10 +385,7 @@ pub fn put_step(
     ensures { λ r. ⌜ Steps (putToken (style (now («line_break» .entry)) (now (indentation .entry))) (length (now (buf .entry))) (joined progress (now (flags .entry))) (now (atom .entry)) «break_line_at») (joined progress (now (flags .entry))) commit (now (buf .entry)) r (now (flags .exit)) (now (buf .exit)) ⌝ }
 {
     if !progress.is_sound() {
-        return Step {
-            progress,
-            answer: Put::UnsoundRecord,
-        };
+        return refused(progress, Put::UnsoundRecord);
     }
     put_sound(
         progress,
@@ -414,16 +413,10 @@ pub fn put_atom_step(
     ensures { λ r. ⌜ Steps (putAtom (style (now («line_break» .entry)) (now (indentation .entry))) (length (now (buf .entry))) (joined progress (now (flags .entry))) (now (atom .entry)) «break_line_at») (joined progress (now (flags .entry))) commit (now (buf .entry)) r (now (flags .exit)) (now (buf .exit)) ⌝ }
 {
     if !progress.is_sound() {
-        return Step {
-            progress,
-            answer: Put::UnsoundRecord,
-        };
+        return refused(progress, Put::UnsoundRecord);
     }
     if !check_atom(atom) {
-        return Step {
-            progress,
-            answer: Put::InvalidAtom,
-        };
+        return refused(progress, Put::InvalidAtom);
     }
     put_sound(
         progress,
@@ -450,20 +443,14 @@ pub fn begin_step(
     ensures { λ r. ⌜ Steps (beginList (style (now («line_break» .entry)) (now (indentation .entry))) (length (now (buf .entry))) (joined progress (now (flags .entry))) «break_line_at») (joined progress (now (flags .entry))) commit (now (buf .entry)) r (now (flags .exit)) (now (buf .exit)) ⌝ }
 {
     if !progress.is_sound() {
-        return Step {
-            progress,
-            answer: Put::UnsoundRecord,
-        };
+        return refused(progress, Put::UnsoundRecord);
     }
     let phase = progress.phase;
     match phase {
         Phase::Beginning => first_list(progress, flags, buf, commit),
         Phase::Writing => {
             if DEEPEST <= progress.lists {
-                return Step {
-                    progress,
-                    answer: Put::TooDeep,
-                };
+                return refused(progress, Put::TooDeep);
             }
             inner(
                 progress,
@@ -477,14 +464,8 @@ pub fn begin_step(
                 commit,
             )
         }
-        Phase::Finished => Step {
-            progress,
-            answer: Put::WritingFinished,
-        },
-        Phase::Done => Step {
-            progress,
-            answer: Put::WritingFinished,
-        },
+        Phase::Finished => refused(progress, Put::WritingFinished),
+        Phase::Done => refused(progress, Put::WritingFinished),
     }
 }
 
@@ -566,10 +547,7 @@ fn close(
                     answer: Put::At(at),
                 }
             }
-            Spot::NoRoom => Step {
-                progress,
-                answer: Put::NoRoom,
-            },
+            Spot::NoRoom => refused(progress, Put::NoRoom),
         }
     } else {
         match place(buf, position, b"", 0, b"", b")", commit) {
@@ -588,10 +566,7 @@ fn close(
                     answer: Put::At(at),
                 }
             }
-            Spot::NoRoom => Step {
-                progress,
-                answer: Put::NoRoom,
-            },
+            Spot::NoRoom => refused(progress, Put::NoRoom),
         }
     }
 }
@@ -608,26 +583,14 @@ pub fn end_step(
     ensures { λ r. ⌜ Steps (endList (style (now («line_break» .entry)) (now (indentation .entry))) (length (now (buf .entry))) (joined progress (now (flags .entry)))) (joined progress (now (flags .entry))) commit (now (buf .entry)) r (now (flags .exit)) (now (buf .exit)) ⌝ }
 {
     if !progress.is_sound() {
-        return Step {
-            progress,
-            answer: Put::UnsoundRecord,
-        };
+        return refused(progress, Put::UnsoundRecord);
     }
     let phase = progress.phase;
     match phase {
-        Phase::Beginning => Step {
-            progress,
-            answer: Put::NoListToEnd,
-        },
+        Phase::Beginning => refused(progress, Put::NoListToEnd),
         Phase::Writing => close(progress, flags, line_break, indentation, buf, commit),
-        Phase::Finished => Step {
-            progress,
-            answer: Put::WritingFinished,
-        },
-        Phase::Done => Step {
-            progress,
-            answer: Put::WritingFinished,
-        },
+        Phase::Finished => refused(progress, Put::WritingFinished),
+        Phase::Done => refused(progress, Put::WritingFinished),
     }
 }
 
@@ -665,10 +628,7 @@ fn last(
             },
             answer: Put::At(at),
         },
-        Spot::NoRoom => Step {
-            progress,
-            answer: Put::NoRoom,
-        },
+        Spot::NoRoom => refused(progress, Put::NoRoom),
     }
 }
 
@@ -685,25 +645,13 @@ pub fn finish_step(
     ensures { λ r. ⌜ Steps (finishWriting (style (now («line_break» .entry)) (now (indentation .entry))) (length (now (buf .entry))) (joined progress (now (flags .entry))) «insert_line_break») (joined progress (now (flags .entry))) commit (now (buf .entry)) r (now (flags .exit)) (now (buf .exit)) ⌝ }
 {
     if !progress.is_sound() {
-        return Step {
-            progress,
-            answer: Put::UnsoundRecord,
-        };
+        return refused(progress, Put::UnsoundRecord);
     }
     let phase = progress.phase;
     match phase {
-        Phase::Beginning => Step {
-            progress,
-            answer: Put::WritingNotFinished,
-        },
-        Phase::Writing => Step {
-            progress,
-            answer: Put::WritingNotFinished,
-        },
+        Phase::Beginning => refused(progress, Put::WritingNotFinished),
+        Phase::Writing => refused(progress, Put::WritingNotFinished),
         Phase::Finished => last(progress, line_break, buf, insert_line_break, commit),
-        Phase::Done => Step {
-            progress,
-            answer: Put::WritingFinished,
-        },
+        Phase::Done => refused(progress, Put::WritingFinished),
     }
 }

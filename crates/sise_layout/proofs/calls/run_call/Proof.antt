@@ -1,10 +1,14 @@
 -- Each branch is the call that its kind means, on the bytes that the words name.
 -- Assumes nothing.
-use Rattle.sise_layout.specs.Calls.{step}
-use Rattle.sise_layout.proofs.Running.{call-atom, call-begin, call-end, call-finish, call-break}
 use borrow.Author.Needs.{needs}
+use Rattle.sise_layout.specs.Calls.{step}
+use Rattle.sise_layout.proofs.Running.{call-atom, call-begin, call-end, call-finish}
 use Rattle.sise_layout.proofs.calls.run_call.Statement.{statement}
 use Rattle.sise_layout.proofs.calls.run_call.Tie as tie
+
+-- the function's entry
+abbrev start : tie.After-shared-slice-known8 → tie.Start
+start c = c .before .before .before .before .before .before .before .before .before
 
 mul-kind : tie.Need-mul-kind
 mul-kind c = search needs
@@ -42,20 +46,17 @@ shared-slice-read-threshold c = search needs
 atom-bytes-requires : tie.Need-atom-bytes-requires
 atom-bytes-requires c κs = search needs
 
-put-atom-requires : tie.Need-put-atom-requires
-put-atom-requires c κs = search needs
+put-atom-step-requires : tie.Need-put-atom-step-requires
+put-atom-step-requires c κs = search needs
 
-begin-list-requires : tie.Need-begin-list-requires
-begin-list-requires c κs = search needs
+begin-step-requires : tie.Need-begin-step-requires
+begin-step-requires c κs = search needs
 
-end-list-requires : tie.Need-end-list-requires
-end-list-requires c κs = search needs
+end-step-requires : tie.Need-end-step-requires
+end-step-requires c κs = search needs
 
-finish-requires : tie.Need-finish-requires
-finish-requires c κs = search needs
-
-finish-requires-2 : tie.Need-finish-requires-2
-finish-requires-2 c κs = search needs
+finish-step-requires : tie.Need-finish-step-requires
+finish-step-requires c κs = search needs
 
 same-length : tie.Need-same-length
 same-length c = search needs
@@ -63,9 +64,9 @@ same-length c = search needs
 returns : tie.Need-returns
 unfolding step
 returns c =
-    let test = c .before .before .before .before .before in
-    let a = test .before .before .before .before .before .before .before .before .before .before .args in
-    rw (call-atom (a .words .now) (a .atoms .now) (a .at) (test .if1 .taken), ← c .before .before .before .before .atom-bytes .ensures) (c .before .before .put-atom .ensures)
+    let test = c .before .before .before .before .before .before in
+    let a = start (test .before) .args in
+    rw (call-atom (a .words .now) (a .atoms .now) (a .at) (test .if1 .taken), ← c .before .before .before .before .before .atom-bytes .ensures) (c .before .before .put-atom-step .ensures)
 
 same-length-2 : tie.Need-same-length-2
 same-length-2 c = search needs
@@ -73,10 +74,10 @@ same-length-2 c = search needs
 returns-2 : tie.Need-returns-2
 unfolding step
 returns-2 c =
-    let test2 = c .before .before .before .before in
+    let test2 = c .before .before .before .before .before in
     let test1 = test2 .before in
-    let a = test1 .before .before .before .before .before .before .before .before .before .before .args in
-    rw (call-begin (a .words .now) (a .atoms .now) (a .at) (test1 .if1 .left) (test2 .if2 .taken)) (c .before .before .begin-list .ensures)
+    let a = start (test1 .before) .args in
+    rw (call-begin (a .words .now) (a .atoms .now) (a .at) (test1 .if1 .left) (test2 .if2 .taken)) (c .before .before .begin-step .ensures)
 
 same-length-3 : tie.Need-same-length-3
 same-length-3 c = search needs
@@ -84,11 +85,11 @@ same-length-3 c = search needs
 returns-3 : tie.Need-returns-3
 unfolding step
 returns-3 c =
-    let test3 = c .before .before .before .before in
+    let test3 = c .before .before .before .before .before in
     let test2 = test3 .before in
     let test1 = test2 .before in
-    let a = test1 .before .before .before .before .before .before .before .before .before .before .args in
-    rw (call-end (a .words .now) (a .atoms .now) (a .at) (test1 .if1 .left) (test2 .if2 .left) (test3 .if3 .taken)) (c .before .before .end-list .ensures)
+    let a = start (test1 .before) .args in
+    rw (call-end (a .words .now) (a .atoms .now) (a .at) (test1 .if1 .left) (test2 .if2 .left) (test3 .if3 .taken)) (c .before .before .end-step .ensures)
 
 same-length-4 : tie.Need-same-length-4
 same-length-4 c = search needs
@@ -96,25 +97,11 @@ same-length-4 c = search needs
 returns-4 : tie.Need-returns-4
 unfolding step
 returns-4 c =
-    let test4 = c .before .before .before .before in
-    let test3 = test4 .before in
+    let test3 = c .before .before .before .before .before in
     let test2 = test3 .before in
     let test1 = test2 .before in
-    let a = test1 .before .before .before .before .before .before .before .before .before .before .args in
-    rw (call-finish (a .words .now) (a .atoms .now) (a .at) (test1 .if1 .left) (test2 .if2 .left) (test3 .if3 .left) (test4 .if4 .taken)) (c .before .before .finish .ensures)
-
-same-length-5 : tie.Need-same-length-5
-same-length-5 c = search needs
-
-returns-5 : tie.Need-returns-5
-unfolding step
-returns-5 c =
-    let test4 = c .before .before .before .before in
-    let test3 = test4 .before in
-    let test2 = test3 .before in
-    let test1 = test2 .before in
-    let a = test1 .before .before .before .before .before .before .before .before .before .before .args in
-    rw (call-break (a .words .now) (a .atoms .now) (a .at) (test1 .if1 .left) (test2 .if2 .left) (test3 .if3 .left) (test4 .if4 .left)) (c .before .before .finish2 .ensures)
+    let a = start (test1 .before) .args in
+    rw (call-finish (a .words .now) (a .atoms .now) (a .at) (test1 .if1 .left) (test2 .if2 .left) (test3 .if3 .left)) (c .before .before .finish-step .ensures)
 
 pub run-call-spec : {M : Type 1} → statement M
 run-call-spec =
@@ -132,11 +119,10 @@ run-call-spec =
     mul-threshold
     shared-slice-read-threshold
     atom-bytes-requires
-    put-atom-requires
-    begin-list-requires
-    end-list-requires
-    finish-requires
-    finish-requires-2
+    put-atom-step-requires
+    begin-step-requires
+    end-step-requires
+    finish-step-requires
     same-length
     returns
     same-length-2
@@ -144,6 +130,4 @@ run-call-spec =
     same-length-3
     returns-3
     same-length-4
-    returns-4
-    same-length-5
-    returns-5)
+    returns-4)

@@ -1,19 +1,20 @@
--- Without bytes everything fits; else n strings of s bytes fit into m bytes exactly if n is at most m / s.
+-- Where one string has more bytes than are left, none fits; else the product decides, and is small.
 -- Assumes nothing.
-use mathlib.Core.Path.{sym}
-use borrow.Author.Needs.{needs}
-use Rattle.sise_serializer.proofs.Tests.{fit-none, fit-some}
+use native.Mathlib.Nat.{mul-le-mul-right}
+use native.Mathlib.Omega.{arith}
+use mathlib.Core.Path.{refl}
+use Rattle.sise_serializer.proofs.Tests.{fit-large}
 use Rattle.sise_serializer.proofs.buffer.has_room.Statement.{statement}
 use Rattle.sise_serializer.proofs.buffer.has_room.Tie as tie
 
 returns : tie.Need-returns
-returns c = let a = c .before .args in sym (fit-none (a .left) (a .times) (a .size) (c .if1 .taken))
+returns c = let a = c .before .args in fit-large (a .left) (a .times) (a .size) (omega arith)
 
-div-result : tie.Need-div-result
-div-result c = search needs
+mul-result : tie.Need-mul-result
+mul-result c = let a = c .before .args in omega (arith, mul-le-mul-right (a .size) (c .before .pre .1))
 
 returns-2 : tie.Need-returns-2
-returns-2 c = let a = c .before .args in fit-some (a .left) (a .times) (a .size) (c .if1 .left)
+returns-2 c = refl
 
 pub has-room-spec : {M : Type 1} → statement M
-has-room-spec = tie.close (tie.spec returns div-result returns-2)
+has-room-spec = tie.close (tie.spec returns mul-result returns-2)

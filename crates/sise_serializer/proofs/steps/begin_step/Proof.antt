@@ -3,7 +3,6 @@
 use mathlib.Core.Path.{_≡_, refl, sym, _∙_}
 use mathlib.Core.Bool.{true}
 use borrow.Author.Needs.{needs}
-use borrow.Author.Tests.{not-true, not-false}
 use borrow.Author.Tests.{lt-ltb, le-ltb, not-true, not-false}
 use Rattle.sise_serializer.specs.Steps.{joined}
 use Rattle.sise_serializer.specs.declared.serializer.Serializer.{Serializer}
@@ -28,11 +27,15 @@ is-sound c = sym (c .before .is-sound .ensures (start (c .before) .args .flags .
 is-sound-requires : tie.Need-is-sound-requires
 is-sound-requires c κs = search needs
 
+refused-requires : tie.Need-refused-requires
+refused-requires c κs = search needs
+
 returns : tie.Need-returns
 returns c =
-    let st = start (c .before) in
+    let test = c .before in
+    let st = start (test .before) in
     let a = st .args in
-    rw (begin-unsound _ _ (whole st) _ (sym (c .before .is-sound .ensures (a .flags .now)) ∙ not-true _ (c .if1 .taken))) (refused-steps (a .progress) (a .flags .now) (a .commit) (a .buf .now) 11 _ refl)
+    rw (begin-unsound _ _ (whole st) _ (sym (test .before .is-sound .ensures (a .flags .now)) ∙ not-true _ (test .if1 .taken))) (refused-steps (a .progress) (a .flags .now) (a .commit) (a .buf .now) 11 (c .refused .ensures) refl)
 
 enum-told : tie.Need-enum-told
 enum-told c = search needs
@@ -43,14 +46,18 @@ first-list-requires c κs = search needs
 enum-told-2 : tie.Need-enum-told-2
 enum-told-2 c = search needs
 
+refused-requires-2 : tie.Need-refused-requires-2
+refused-requires-2 c κs = search needs
+
 returns-2 : tie.Need-returns-2
 unfolding beginIn
 returns-2 c =
-    let told = c .before .before in
+    let test = c .before in
+    let told = test .before .before in
     let el = told .before .before in
     let st = start (el .before) in
     let a = st .args in
-    rw (begin-sound _ _ (whole st) _ (is-sound el) (told .enum-told2 .given .1), le-ltb _ _ (c .if2 .taken)) (refused-steps (a .progress) (a .flags .now) (a .commit) (a .buf .now) 21 _ refl)
+    rw (begin-sound _ _ (whole st) _ (is-sound el) (told .enum-told2 .given .1), le-ltb _ _ (test .if2 .taken)) (refused-steps (a .progress) (a .flags .now) (a .commit) (a .buf .now) 21 (c .refused2 .ensures) refl)
 
 slice-aggregate-inner : tie.Need-slice-aggregate-inner
 slice-aggregate-inner c = search needs
@@ -66,8 +73,14 @@ inner-requires c κs =
 enum-told-3 : tie.Need-enum-told-3
 enum-told-3 c = search needs
 
+refused-requires-3 : tie.Need-refused-requires-3
+refused-requires-3 c κs = search needs
+
 enum-told-4 : tie.Need-enum-told-4
 enum-told-4 c = search needs
+
+refused-requires-4 : tie.Need-refused-requires-4
+refused-requires-4 c κs = search needs
 
 same-length : tie.Need-same-length
 same-length c = search needs
@@ -95,33 +108,39 @@ returns-4 c =
 returns-5 : tie.Need-returns-5
 unfolding beginIn
 returns-5 c =
-    let el = c .before .before in
+    let told = c .before in
+    let el = told .before .before in
     let st = start (el .before) in
     let a = st .args in
-    rw (begin-sound _ _ (whole st) _ (is-sound el) (c .enum-told3 .given .1)) (refused-steps (a .progress) (a .flags .now) (a .commit) (a .buf .now) 19 _ refl)
+    rw (begin-sound _ _ (whole st) _ (is-sound el) (told .enum-told3 .given .1)) (refused-steps (a .progress) (a .flags .now) (a .commit) (a .buf .now) 19 (c .refused3 .ensures) refl)
 
 returns-6 : tie.Need-returns-6
 unfolding beginIn
 returns-6 c =
-    let el = c .before .before in
+    let told = c .before in
+    let el = told .before .before in
     let st = start (el .before) in
     let a = st .args in
-    rw (begin-sound _ _ (whole st) _ (is-sound el) (c .enum-told4 .given .1)) (refused-steps (a .progress) (a .flags .now) (a .commit) (a .buf .now) 19 _ refl)
+    rw (begin-sound _ _ (whole st) _ (is-sound el) (told .enum-told4 .given .1)) (refused-steps (a .progress) (a .flags .now) (a .commit) (a .buf .now) 19 (c .refused4 .ensures) refl)
 
 pub begin-step-spec : {M : Type 1} → statement M
 begin-step-spec =
     tie.close
     (tie.spec
     is-sound-requires
+    refused-requires
     returns
     enum-told
     first-list-requires
     enum-told-2
+    refused-requires-2
     returns-2
     slice-aggregate-inner
     inner-requires
     enum-told-3
+    refused-requires-3
     enum-told-4
+    refused-requires-4
     same-length
     returns-3
     same-length-2

@@ -56,6 +56,9 @@ closed-requires c κs = search needs
 enum-told : tie.Need-enum-told
 enum-told c = search needs
 
+refused-requires : tie.Need-refused-requires
+refused-requires c κs = search needs
+
 slice-aggregate-place-2 : tie.Need-slice-aggregate-place-2
 slice-aggregate-place-2 c = search needs
 
@@ -80,6 +83,9 @@ closed-requires-2 c κs = search needs
 enum-told-2 : tie.Need-enum-told-2
 enum-told-2 c = search needs
 
+refused-requires-2 : tie.Need-refused-requires-2
+refused-requires-2 c κs = search needs
+
 same-length : tie.Need-same-length
 same-length c = search needs
 
@@ -98,10 +104,10 @@ same-length-2 c = search needs
 returns-2 : tie.Need-returns-2
 unfolding closeAs
 returns-2 c =
-    let pl = c .before .before .before .before in
+    let pl = c .before .before .before .before .before in
     let arm = pl .before .before .before in
     let a = start (arm .before) .args in
-    close-full-steps (styled (arm .before)) (a .progress) (a .flags .now) (a .commit) (arm .if1 .taken) (pl .place .ensures) (c .enum-told .given .1)
+    close-full-steps (styled (arm .before)) (a .progress) (a .flags .now) (a .commit) (arm .if1 .taken) (pl .place .ensures) (c .refused .ensures) (c .before .enum-told .given .1)
 
 same-length-3 : tie.Need-same-length-3
 same-length-3 c = search needs
@@ -121,10 +127,10 @@ same-length-4 c = search needs
 returns-4 : tie.Need-returns-4
 unfolding closeAs
 returns-4 c =
-    let pl = c .before .before .before .before in
+    let pl = c .before .before .before .before .before in
     let arm = pl .before .before .before .before .before in
     let a = start (arm .before) .args in
-    close-full-steps (styled (arm .before)) (a .progress) (a .flags .now) (a .commit) (arm .if1 .left) (pl .place2 .ensures) (c .enum-told2 .given .1)
+    close-full-steps (styled (arm .before)) (a .progress) (a .flags .now) (a .commit) (arm .if1 .left) (pl .place2 .ensures) (c .refused2 .ensures) (c .before .enum-told2 .given .1)
 
 pub close-spec : {M : Type 1} → statement M
 close-spec =
@@ -141,6 +147,7 @@ close-spec =
     add-indents
     closed-requires
     enum-told
+    refused-requires
     slice-aggregate-place-2
     slice-aggregate-place-3
     slice-aggregate-place-4
@@ -149,6 +156,7 @@ close-spec =
     add-line-2
     closed-requires-2
     enum-told-2
+    refused-requires-2
     same-length
     returns
     same-length-2

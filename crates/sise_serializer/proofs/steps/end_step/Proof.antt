@@ -27,14 +27,21 @@ is-sound c = sym (c .before .is-sound .ensures (start (c .before) .args .flags .
 is-sound-requires : tie.Need-is-sound-requires
 is-sound-requires c κs = search needs
 
+refused-requires : tie.Need-refused-requires
+refused-requires c κs = search needs
+
 returns : tie.Need-returns
 returns c =
-    let st = start (c .before) in
+    let test = c .before in
+    let st = start (test .before) in
     let a = st .args in
-    rw (end-unsound _ _ (whole st) (sym (c .before .is-sound .ensures (a .flags .now)) ∙ not-true _ (c .if1 .taken))) (refused-steps (a .progress) (a .flags .now) (a .commit) (a .buf .now) 11 _ refl)
+    rw (end-unsound _ _ (whole st) (sym (test .before .is-sound .ensures (a .flags .now)) ∙ not-true _ (test .if1 .taken))) (refused-steps (a .progress) (a .flags .now) (a .commit) (a .buf .now) 11 (c .refused .ensures) refl)
 
 enum-told : tie.Need-enum-told
 enum-told c = search needs
+
+refused-requires-2 : tie.Need-refused-requires-2
+refused-requires-2 c κs = search needs
 
 enum-told-2 : tie.Need-enum-told-2
 enum-told-2 c = search needs
@@ -49,16 +56,23 @@ close-requires c κs =
 enum-told-3 : tie.Need-enum-told-3
 enum-told-3 c = search needs
 
+refused-requires-3 : tie.Need-refused-requires-3
+refused-requires-3 c κs = search needs
+
 enum-told-4 : tie.Need-enum-told-4
 enum-told-4 c = search needs
+
+refused-requires-4 : tie.Need-refused-requires-4
+refused-requires-4 c κs = search needs
 
 returns-2 : tie.Need-returns-2
 unfolding endIn
 returns-2 c =
-    let el = c .before .before in
+    let told = c .before in
+    let el = told .before .before in
     let st = start (el .before) in
     let a = st .args in
-    rw (end-sound _ _ (whole st) (is-sound el) (c .enum-told .given .1)) (refused-steps (a .progress) (a .flags .now) (a .commit) (a .buf .now) 18 _ refl)
+    rw (end-sound _ _ (whole st) (is-sound el) (told .enum-told .given .1)) (refused-steps (a .progress) (a .flags .now) (a .commit) (a .buf .now) 18 (c .refused2 .ensures) refl)
 
 same-length : tie.Need-same-length
 same-length c = search needs
@@ -74,30 +88,36 @@ returns-3 c =
 returns-4 : tie.Need-returns-4
 unfolding endIn
 returns-4 c =
-    let el = c .before .before in
+    let told = c .before in
+    let el = told .before .before in
     let st = start (el .before) in
     let a = st .args in
-    rw (end-sound _ _ (whole st) (is-sound el) (c .enum-told3 .given .1)) (refused-steps (a .progress) (a .flags .now) (a .commit) (a .buf .now) 19 _ refl)
+    rw (end-sound _ _ (whole st) (is-sound el) (told .enum-told3 .given .1)) (refused-steps (a .progress) (a .flags .now) (a .commit) (a .buf .now) 19 (c .refused3 .ensures) refl)
 
 returns-5 : tie.Need-returns-5
 unfolding endIn
 returns-5 c =
-    let el = c .before .before in
+    let told = c .before in
+    let el = told .before .before in
     let st = start (el .before) in
     let a = st .args in
-    rw (end-sound _ _ (whole st) (is-sound el) (c .enum-told4 .given .1)) (refused-steps (a .progress) (a .flags .now) (a .commit) (a .buf .now) 19 _ refl)
+    rw (end-sound _ _ (whole st) (is-sound el) (told .enum-told4 .given .1)) (refused-steps (a .progress) (a .flags .now) (a .commit) (a .buf .now) 19 (c .refused4 .ensures) refl)
 
 pub end-step-spec : {M : Type 1} → statement M
 end-step-spec =
     tie.close
     (tie.spec
     is-sound-requires
+    refused-requires
     returns
     enum-told
+    refused-requires-2
     enum-told-2
     close-requires
     enum-told-3
+    refused-requires-3
     enum-told-4
+    refused-requires-4
     returns-2
     same-length
     returns-3

@@ -27,17 +27,27 @@ is-sound c = sym (c .before .is-sound .ensures (start (c .before) .args .flags .
 is-sound-requires : tie.Need-is-sound-requires
 is-sound-requires c κs = search needs
 
+refused-requires : tie.Need-refused-requires
+refused-requires c κs = search needs
+
 returns : tie.Need-returns
 returns c =
-    let st = start (c .before) in
+    let test = c .before in
+    let st = start (test .before) in
     let a = st .args in
-    rw (finish-unsound _ _ (whole st) _ (sym (c .before .is-sound .ensures (a .flags .now)) ∙ not-true _ (c .if1 .taken))) (refused-steps (a .progress) (a .flags .now) (a .commit) (a .buf .now) 11 _ refl)
+    rw (finish-unsound _ _ (whole st) _ (sym (test .before .is-sound .ensures (a .flags .now)) ∙ not-true _ (test .if1 .taken))) (refused-steps (a .progress) (a .flags .now) (a .commit) (a .buf .now) 11 (c .refused .ensures) refl)
 
 enum-told : tie.Need-enum-told
 enum-told c = search needs
 
+refused-requires-2 : tie.Need-refused-requires-2
+refused-requires-2 c κs = search needs
+
 enum-told-2 : tie.Need-enum-told-2
 enum-told-2 c = search needs
+
+refused-requires-3 : tie.Need-refused-requires-3
+refused-requires-3 c κs = search needs
 
 enum-told-3 : tie.Need-enum-told-3
 enum-told-3 c = search needs
@@ -51,21 +61,26 @@ last-requires c κs =
 enum-told-4 : tie.Need-enum-told-4
 enum-told-4 c = search needs
 
+refused-requires-4 : tie.Need-refused-requires-4
+refused-requires-4 c κs = search needs
+
 returns-2 : tie.Need-returns-2
 unfolding finishIn
 returns-2 c =
-    let el = c .before .before in
+    let told = c .before in
+    let el = told .before .before in
     let st = start (el .before) in
     let a = st .args in
-    rw (finish-sound _ _ (whole st) _ (is-sound el) (c .enum-told .given .1)) (refused-steps (a .progress) (a .flags .now) (a .commit) (a .buf .now) 20 _ refl)
+    rw (finish-sound _ _ (whole st) _ (is-sound el) (told .enum-told .given .1)) (refused-steps (a .progress) (a .flags .now) (a .commit) (a .buf .now) 20 (c .refused2 .ensures) refl)
 
 returns-3 : tie.Need-returns-3
 unfolding finishIn
 returns-3 c =
-    let el = c .before .before in
+    let told = c .before in
+    let el = told .before .before in
     let st = start (el .before) in
     let a = st .args in
-    rw (finish-sound _ _ (whole st) _ (is-sound el) (c .enum-told2 .given .1)) (refused-steps (a .progress) (a .flags .now) (a .commit) (a .buf .now) 20 _ refl)
+    rw (finish-sound _ _ (whole st) _ (is-sound el) (told .enum-told2 .given .1)) (refused-steps (a .progress) (a .flags .now) (a .commit) (a .buf .now) 20 (c .refused3 .ensures) refl)
 
 same-length : tie.Need-same-length
 same-length c = search needs
@@ -82,22 +97,27 @@ returns-4 c =
 returns-5 : tie.Need-returns-5
 unfolding finishIn
 returns-5 c =
-    let el = c .before .before in
+    let told = c .before in
+    let el = told .before .before in
     let st = start (el .before) in
     let a = st .args in
-    rw (finish-sound _ _ (whole st) _ (is-sound el) (c .enum-told4 .given .1)) (refused-steps (a .progress) (a .flags .now) (a .commit) (a .buf .now) 19 _ refl)
+    rw (finish-sound _ _ (whole st) _ (is-sound el) (told .enum-told4 .given .1)) (refused-steps (a .progress) (a .flags .now) (a .commit) (a .buf .now) 19 (c .refused4 .ensures) refl)
 
 pub finish-step-spec : {M : Type 1} → statement M
 finish-step-spec =
     tie.close
     (tie.spec
     is-sound-requires
+    refused-requires
     returns
     enum-told
+    refused-requires-2
     enum-told-2
+    refused-requires-3
     enum-told-3
     last-requires
     enum-told-4
+    refused-requires-4
     returns-2
     returns-3
     same-length

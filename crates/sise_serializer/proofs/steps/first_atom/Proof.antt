@@ -27,6 +27,9 @@ enum-known-at c = search needs
 enum-told : tie.Need-enum-told
 enum-told c = search needs
 
+refused-requires : tie.Need-refused-requires
+refused-requires c κs = search needs
+
 same-length : tie.Need-same-length
 same-length c = search needs
 
@@ -45,9 +48,9 @@ returns-2 : tie.Need-returns-2
 unfolding firstAtom
 returns-2 c =
     λ flags.
-    let pl = c .before .before .before .before in
+    let pl = c .before .before .before .before .before in
     let a = start pl .args in
-    full-steps (a .progress) flags (a .commit) (a .buf .now) (firstAtom (joined (a .progress) flags) (a .atom .now)) (pl .place .ensures) (c .enum-told .given .1)
+    full-steps (a .progress) flags (a .commit) (a .buf .now) (firstAtom (joined (a .progress) flags) (a .atom .now)) (pl .place .ensures) (c .refused .ensures) (c .before .enum-told .given .1)
 
 pub first-atom-spec : {M : Type 1} → statement M
 first-atom-spec =
@@ -58,6 +61,7 @@ first-atom-spec =
     place-requires
     enum-known-at
     enum-told
+    refused-requires
     same-length
     returns
     same-length-2

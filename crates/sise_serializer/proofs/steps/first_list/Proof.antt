@@ -33,6 +33,9 @@ element-write-flags c = search needs
 enum-told : tie.Need-enum-told
 enum-told c = search needs
 
+refused-requires : tie.Need-refused-requires
+refused-requires c κs = search needs
+
 same-length : tie.Need-same-length
 same-length c = search needs
 
@@ -49,9 +52,9 @@ same-length-2 c = search needs
 returns-2 : tie.Need-returns-2
 unfolding firstList
 returns-2 c =
-    let pl = c .before .before .before .before in
+    let pl = c .before .before .before .before .before in
     let a = start pl .args in
-    full-steps (a .progress) (a .flags .now) (a .commit) (a .buf .now) (firstList (joined (a .progress) (a .flags .now))) (pl .place .ensures) (c .enum-told .given .1)
+    full-steps (a .progress) (a .flags .now) (a .commit) (a .buf .now) (firstList (joined (a .progress) (a .flags .now))) (pl .place .ensures) (c .refused .ensures) (c .before .enum-told .given .1)
 
 pub first-list-spec : {M : Type 1} → statement M
 first-list-spec =
@@ -64,6 +67,7 @@ first-list-spec =
     enum-known-at
     element-write-flags
     enum-told
+    refused-requires
     same-length
     returns
     same-length-2

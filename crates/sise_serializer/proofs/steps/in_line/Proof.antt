@@ -40,6 +40,9 @@ added-requires c κs = search needs
 enum-told : tie.Need-enum-told
 enum-told c = search needs
 
+refused-requires : tie.Need-refused-requires
+refused-requires c κs = search needs
+
 same-length : tie.Need-same-length
 same-length c = search needs
 
@@ -57,9 +60,9 @@ same-length-2 c = search needs
 returns-2 : tie.Need-returns-2
 unfolding inLine
 returns-2 c =
-    let pl = c .before .before .before .before in
+    let pl = c .before .before .before .before .before in
     let a = start pl .args in
-    full-steps (a .progress) (a .flags .now) (a .commit) (a .buf .now) (piece (start pl)) (rw (append-nil (a .lead .now)) at (pl .place .ensures)) (c .enum-told .given .1)
+    full-steps (a .progress) (a .flags .now) (a .commit) (a .buf .now) (piece (start pl)) (rw (append-nil (a .lead .now)) at (pl .place .ensures)) (c .refused .ensures) (c .before .enum-told .given .1)
 
 pub in-line-spec : {M : Type 1} → statement M
 in-line-spec =
@@ -73,6 +76,7 @@ in-line-spec =
     add-spaces
     added-requires
     enum-told
+    refused-requires
     same-length
     returns
     same-length-2

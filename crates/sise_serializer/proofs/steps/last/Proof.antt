@@ -29,7 +29,9 @@ slice-aggregate-place-2 : tie.Need-slice-aggregate-place-2
 slice-aggregate-place-2 c = search needs
 
 place-requires : tie.Need-place-requires
-place-requires c κs = search needs
+place-requires c κs =
+    let one = c .before .before .before in
+    omega (arith, one .one-if .ensures, one-at-most (start one .args .insert-line-break))
 
 enum-known-at : tie.Need-enum-known-at
 enum-known-at c = search needs
@@ -41,6 +43,9 @@ add-t21 c =
 
 enum-told : tie.Need-enum-told
 enum-told c = search needs
+
+refused-requires : tie.Need-refused-requires
+refused-requires c κs = search needs
 
 same-length : tie.Need-same-length
 same-length c = search needs
@@ -64,10 +69,10 @@ returns-2 : tie.Need-returns-2
 unfolding last
 returns-2 c =
     λ flags.
-    let pl = c .before .before .before .before in
+    let pl = c .before .before .before .before .before in
     let one = pl .before .before .before .before in
     let a = start one .args in
-    full-steps (a .progress) flags (a .commit) (a .buf .now) (piece (start one) flags) (last-placed (a .insert-line-break) (a .line-break .now) (one .one-if .ensures) (pl .place .ensures)) (c .enum-told .given .1)
+    full-steps (a .progress) flags (a .commit) (a .buf .now) (piece (start one) flags) (last-placed (a .insert-line-break) (a .line-break .now) (one .one-if .ensures) (pl .place .ensures)) (c .refused .ensures) (c .before .enum-told .given .1)
 
 pub last-spec : {M : Type 1} → statement M
 last-spec =
@@ -80,6 +85,7 @@ last-spec =
     enum-known-at
     add-t21
     enum-told
+    refused-requires
     same-length
     returns
     same-length-2

@@ -55,6 +55,9 @@ added-requires c κs = search needs
 enum-told : tie.Need-enum-told
 enum-told c = search needs
 
+refused-requires : tie.Need-refused-requires
+refused-requires c κs = search needs
+
 same-length : tie.Need-same-length
 same-length c = search needs
 
@@ -72,9 +75,9 @@ same-length-2 c = search needs
 returns-2 : tie.Need-returns-2
 unfolding innerAs laid
 returns-2 c =
-    let pl = c .before .before .before .before in
+    let pl = c .before .before .before .before .before in
     let a = start pl .args in
-    full-steps (a .progress) (a .flags .now) (a .commit) (a .buf .now) (piece (start pl)) (pl .place .ensures) (c .enum-told .given .1)
+    full-steps (a .progress) (a .flags .now) (a .commit) (a .buf .now) (piece (start pl)) (pl .place .ensures) (c .refused .ensures) (c .before .enum-told .given .1)
 
 pub on-new-line-spec : {M : Type 1} → statement M
 on-new-line-spec =
@@ -90,6 +93,7 @@ on-new-line-spec =
     add-indents
     added-requires
     enum-told
+    refused-requires
     same-length
     returns
     same-length-2

@@ -27,21 +27,29 @@ is-sound c = sym (c .before .is-sound .ensures (start (c .before) .args .flags .
 is-sound-requires : tie.Need-is-sound-requires
 is-sound-requires c κs = search needs
 
+refused-requires : tie.Need-refused-requires
+refused-requires c κs = search needs
+
 returns : tie.Need-returns
 returns c =
-    let st = start (c .before) in
+    let test = c .before in
+    let st = start (test .before) in
     let a = st .args in
-    rw (put-unsound _ _ (whole st) (a .atom .now) _ (sym (c .before .is-sound .ensures (a .flags .now)) ∙ not-true _ (c .if1 .taken))) (refused-steps (a .progress) (a .flags .now) (a .commit) (a .buf .now) 11 _ refl)
+    rw (put-unsound _ _ (whole st) (a .atom .now) _ (sym (test .before .is-sound .ensures (a .flags .now)) ∙ not-true _ (test .if1 .taken))) (refused-steps (a .progress) (a .flags .now) (a .commit) (a .buf .now) 11 (c .refused .ensures) refl)
 
 check-atom-requires : tie.Need-check-atom-requires
 check-atom-requires c κs = search needs
 
+refused-requires-2 : tie.Need-refused-requires-2
+refused-requires-2 c κs = search needs
+
 returns-2 : tie.Need-returns-2
 returns-2 c =
-    let el = c .before .before in
+    let test = c .before in
+    let el = test .before .before in
     let st = start (el .before) in
     let a = st .args in
-    rw (put-no-atom _ _ (whole st) (a .atom .now) _ (is-sound el) (sym (c .before .check-atom .ensures) ∙ not-true _ (c .if2 .taken))) (refused-steps (a .progress) (a .flags .now) (a .commit) (a .buf .now) 17 _ refl)
+    rw (put-no-atom _ _ (whole st) (a .atom .now) _ (is-sound el) (sym (test .before .check-atom .ensures) ∙ not-true _ (test .if2 .taken))) (refused-steps (a .progress) (a .flags .now) (a .commit) (a .buf .now) 17 (c .refused2 .ensures) refl)
 
 put-sound-requires : tie.Need-put-sound-requires
 put-sound-requires c κs = is-sound (c .before .before .before .before)
@@ -62,8 +70,10 @@ put-atom-step-spec =
     tie.close
     (tie.spec
     is-sound-requires
+    refused-requires
     returns
     check-atom-requires
+    refused-requires-2
     returns-2
     put-sound-requires
     same-length

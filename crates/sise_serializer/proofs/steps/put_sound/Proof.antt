@@ -3,7 +3,7 @@
 use mathlib.Core.Path.{refl}
 use mathlib.Core.Bool.{false≢true}
 use borrow.Author.Needs.{needs}
-use Rattle.sise_serializer.specs.Serializer.{style, Style, putIn}
+use Rattle.sise_serializer.specs.Serializer.{putIn}
 use Rattle.sise_serializer.specs.Steps.{joined}
 use Rattle.sise_serializer.specs.declared.serializer.Serializer.{Serializer}
 use Rattle.sise_serializer.proofs.Sound.{small, writing-lists}
@@ -37,8 +37,14 @@ inner-requires c κs =
 enum-told-3 : tie.Need-enum-told-3
 enum-told-3 c = search needs
 
+refused-requires : tie.Need-refused-requires
+refused-requires c κs = search needs
+
 enum-told-4 : tie.Need-enum-told-4
 enum-told-4 c = search needs
+
+refused-requires-2 : tie.Need-refused-requires-2
+refused-requires-2 c κs = search needs
 
 same-length : tie.Need-same-length
 same-length c = search needs
@@ -65,16 +71,16 @@ returns-2 c =
 returns-3 : tie.Need-returns-3
 unfolding putIn
 returns-3 c =
-    let st = start (c .before .before) in
+    let st = start (c .before .before .before) in
     let a = st .args in
-    rw (put-in _ _ (whole st) (a .atom .now) _ (c .enum-told3 .given .1)) (refused-steps (a .progress) (a .flags .now) (a .commit) (a .buf .now) 19 _ refl)
+    rw (put-in _ _ (whole st) (a .atom .now) _ (c .before .enum-told3 .given .1)) (refused-steps (a .progress) (a .flags .now) (a .commit) (a .buf .now) 19 (c .refused .ensures) refl)
 
 returns-4 : tie.Need-returns-4
 unfolding putIn
 returns-4 c =
-    let st = start (c .before .before) in
+    let st = start (c .before .before .before) in
     let a = st .args in
-    rw (put-in _ _ (whole st) (a .atom .now) _ (c .enum-told4 .given .1)) (refused-steps (a .progress) (a .flags .now) (a .commit) (a .buf .now) 19 _ refl)
+    rw (put-in _ _ (whole st) (a .atom .now) _ (c .before .enum-told4 .given .1)) (refused-steps (a .progress) (a .flags .now) (a .commit) (a .buf .now) 19 (c .refused2 .ensures) refl)
 
 pub put-sound-spec : {M : Type 1} → statement M
 put-sound-spec =
@@ -85,7 +91,9 @@ put-sound-spec =
     enum-told-2
     inner-requires
     enum-told-3
+    refused-requires
     enum-told-4
+    refused-requires-2
     same-length
     returns
     same-length-2

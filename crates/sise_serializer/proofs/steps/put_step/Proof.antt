@@ -26,11 +26,15 @@ is-sound c = sym (c .before .is-sound .ensures (start (c .before) .args .flags .
 is-sound-requires : tie.Need-is-sound-requires
 is-sound-requires c κs = search needs
 
+refused-requires : tie.Need-refused-requires
+refused-requires c κs = search needs
+
 returns : tie.Need-returns
 returns c =
-    let st = start (c .before) in
+    let test = c .before in
+    let st = start (test .before) in
     let a = st .args in
-    rw (token-unsound _ _ (whole st) (a .atom .now) _ (sym (c .before .is-sound .ensures (a .flags .now)) ∙ not-true _ (c .if1 .taken))) (refused-steps (a .progress) (a .flags .now) (a .commit) (a .buf .now) 11 _ refl)
+    rw (token-unsound _ _ (whole st) (a .atom .now) _ (sym (test .before .is-sound .ensures (a .flags .now)) ∙ not-true _ (test .if1 .taken))) (refused-steps (a .progress) (a .flags .now) (a .commit) (a .buf .now) 11 (c .refused .ensures) refl)
 
 put-sound-requires : tie.Need-put-sound-requires
 put-sound-requires c κs = is-sound (c .before .before)
@@ -47,4 +51,5 @@ returns-2 c =
 
 pub put-step-spec : {M : Type 1} → statement M
 put-step-spec =
-    tie.close (tie.spec is-sound-requires returns put-sound-requires same-length returns-2)
+    tie.close
+    (tie.spec is-sound-requires refused-requires returns put-sound-requires same-length returns-2)
