@@ -7,7 +7,7 @@ use mathlib.Core.Bool.{Bool, true, false, _&&_, false≢true}
 use mathlib.Core.List.{List, _++_, append-nil}
 use lib.ListN.{length, drop, length-append, length-take, take-append-drop}
 use lib.Seq.{take-append-seam}
-use Rattle.sise_parser.proofs.Calls.{and-first}
+use Rattle.sise_util.proofs.Ranges.{and-first}
 use Rattle.sise_tree.specs.Tree.{Node, atom, list, Nodes, empty, _then_, size, sizes, children, table, tables, lies, liesAll, Holds}
 
 -- both tests hold: go on with each
