@@ -24,8 +24,17 @@ pub(crate) fn put_refused(
     lines::put_byte(out, at, b'\n')
 }
 
-// A text as it is, and a line end.
-pub(crate) fn put_text(out: &mut [u8], at: usize, text: &[u8]) -> usize {
-    let at = lines::put_bytes(out, at, text);
+// A number, and the byte after it.
+pub(crate) fn put_word(out: &mut [u8], at: usize, word: u32, after: u8) -> usize {
+    let at = lines::put_decimal(out, at, word as u64);
+    lines::put_byte(out, at, after)
+}
+
+// The text that stands in the buffer up to the position, and a line end.
+pub(crate) fn put_text(out: &mut [u8], at: usize, buf: &[u8], position: usize) -> usize {
+    if buf.len() < position {
+        return at;
+    }
+    let at = lines::put_bytes(out, at, &buf[..position]);
     lines::put_byte(out, at, b'\n')
 }

@@ -34,11 +34,7 @@ fn put_writing(out: &mut [u8], from: usize, threshold: u64) -> usize {
         at = put_put(out, at, b"offset", answer);
         i += 1;
     }
-    let position = serializer.position;
-    if 64 < position {
-        return at;
-    }
-    put_text(out, at, &buf[..position])
+    put_text(out, at, &buf, serializer.position)
 }
 
 pub(crate) fn put_writings(out: &mut [u8], at: usize) -> usize {
