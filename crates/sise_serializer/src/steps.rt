@@ -481,16 +481,16 @@ fn phase_after(lists: usize) -> Phase
 }
 
 // The flags with so many lists left open after a close. A list that was broken breaks its parent.
-fn flags_after(flags: &mut [bool; 200], lists: usize, was_broken: bool)
-    requires { ⌜ lists < 200 ⌝ }
-    ensures { λ _. ⌜ now (flags .exit) ≡ flagsAfter (now (flags .entry)) lists «was_broken» ⌝ }
+fn flags_after(flags: &mut [bool; 200], left: usize, was_broken: bool)
+    requires { ⌜ left < 200 ⌝ }
+    ensures { λ _. ⌜ now (flags .exit) ≡ flagsAfter (now (flags .entry)) left «was_broken» ⌝ }
 {
-    flags[lists] = false;
-    if lists == 0 {
+    flags[left] = false;
+    if left == 0 {
         return;
     }
     if was_broken {
-        flags[lists - 1] = true;
+        flags[left - 1] = true;
     }
 }
 
