@@ -9,10 +9,11 @@ use lib.ListN.{length, getD}
 use borrow.Author.Tests.{lt-ltb, le-ltb}
 use Rattle.sise_util.specs.Atom.{isAtom}
 use Rattle.sise_serializer.specs.Bytes.{pasted, repeat}
-use Rattle.sise_serializer.specs.Serializer.{Answer, refused, answerAs, Written, Does, isSound, Style, Piece, refuse, place, Gap, newLine, nothing, space, gapAt, laid, inner, innerAs, close, closeAs, last, putIn, putAtom, beginIn, beginList, endIn, endList, finishIn, finishWriting}
+use Rattle.sise_serializer.specs.Serializer.{Answer, refused, answerAs, Written, Does, deepest, isSound, Style, style, Piece, refuse, place, Gap, newLine, nothing, space, gapAt, laid, inner, innerAs, close, closeAs, last, putIn, putAtom, beginIn, beginList, endIn, endList, finishIn, finishWriting}
 use Rattle.sise_serializer.specs.Steps.{joined, Steps, putToken}
 use Rattle.sise_serializer.specs.Parts.{Placed, closedWith, inLine}
 use Rattle.sise_serializer.specs.declared.serializer.Phase.{Phase}
+use Rattle.sise_serializer.specs.declared.serializer.Phase.the-variants.{Writing, Done}
 use Rattle.sise_serializer.specs.declared.serializer.Serializer.{Serializer}
 use Rattle.sise_serializer.specs.declared.serializer.Wrote.{Wrote}
 use Rattle.sise_serializer.specs.declared.steps.Progress.{Progress}
@@ -130,6 +131,13 @@ pub last-placed : (b : Bool) (l : List ℕ) {n : ℕ} {before now : List ℕ} {a
     → Placed before at (repeat n l) [] commit r now → Placed before at (cond b l []) [] commit r now
 last-placed b l e h = rw (← once b l, ← e) h
 
+-- the record after it, from its position and its breaks
+pub last-after : (l : List ℕ) (p : Progress) (flags : List Bool) (wished : Bool) {e b : ℕ} → e ≡ p .position + length (cond wished l []) → b ≡ cond wished (p .breaks + 1) (p .breaks)
+    → joined (record { position = e; phase = Done; lists = p .lists; «list_beginning» = p .«list_beginning»; «line_len» = p .«line_len»; spaces = p .spaces; breaks = b; indents = p .indents }) flags
+    ≡ last (style l []) (joined p flags) wished .after
+unfolding last
+last-after l p flags wished x y = rw (x, y)
+
 -- ---- the calls, by their tests and the phase
 
 module _ (s : Style) (room : ℕ) (w : Serializer) where
@@ -168,6 +176,14 @@ module _ (s : Style) (room : ℕ) (w : Serializer) where
   pub begin-sound : (t : ℕ) {p : Phase} → isSound w ≡ true → w .phase ≡ p → beginList s room w t ≡ beginIn p s room w t
   unfolding beginList
   begin-sound t e h = rw e (ap (λ (q : Phase). beginIn q s room w t) h)
+
+  pub begin-inner : (t : ℕ) → w .lists < deepest → beginIn Writing s room w t ≡ place room w (inner s w (40 ∷ []) true t)
+  unfolding beginIn
+  begin-inner t h = rw (lt-ltb (w .lists) deepest h)
+
+  pub begin-too-deep : (t : ℕ) → deepest ≤ w .lists → beginIn Writing s room w t ≡ refuse 21 w
+  unfolding beginIn
+  begin-too-deep t h = rw (le-ltb (w .lists) deepest h)
 
   pub end-unsound : isSound w ≡ false → endList s room w ≡ refuse 11 w
   unfolding endList

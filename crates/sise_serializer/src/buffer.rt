@@ -5,7 +5,6 @@ ghost use Prim.Native.Nat.{_+_, _*_, _≤_, min};
 ghost use lib.Dec.{leb};
 ghost use lib.ListN.{length};
 ghost use Rattle.sise_serializer.specs.Bytes.{pasted, repeat};
-ghost use Rattle.sise_serializer.specs.Serializer.{limit, deepest};
 ghost use Rattle.sise_serializer.specs.Parts.{spotOf, Placed};
 
 // The longest text.
@@ -23,16 +22,17 @@ fn smaller(a: usize, b: usize) -> usize
     if a < b { a } else { b }
 }
 
-// Whether `left` bytes have room for `times` strings of `size` bytes. Of a longer string than `LIMIT` not even one has room; of others the product is
-// small.
+// Whether `left` bytes have room for `times` strings of `size` bytes. It divides, which is slow, only where the product could pass 64 bits.
 fn has_room(left: usize, times: usize, size: usize) -> bool
-    requires { ⌜ (left ≤ limit) × (times ≤ deepest) ⌝ }
     ensures { λ r. ⌜ r ≡ leb (times * size) left ⌝ }
 {
-    if LIMIT < size {
-        return times == 0;
+    if times <= 256 && size <= LIMIT {
+        return times * size <= left;
     }
-    times * size <= left
+    if size == 0 {
+        return true;
+    }
+    times <= left / size
 }
 
 // The spot of a token of `token` bytes behind `lead` bytes and `times` indentations, the whole beginning at `position` in a buffer of `room` bytes.
@@ -44,7 +44,6 @@ fn find_spot(
     indentation: usize,
     token: usize,
 ) -> Spot
-    requires { ⌜ times ≤ deepest ⌝ }
     ensures { λ r. ⌜ r ≡ spotOf room position (lead + times * indentation) token ⌝ }
 {
     let most = smaller(room, LIMIT);
@@ -115,7 +114,6 @@ pub fn place(
     token: &[u8],
     commit: bool,
 ) -> Spot
-    requires { ⌜ times ≤ deepest ⌝ }
     ensures { λ r. ⌜ Placed (now (buf .entry)) at (now (lead .entry) ++ repeat times (now (indentation .entry))) (now (token .entry)) commit r (now (buf .exit)) ⌝ }
 {
     let spot = find_spot(

@@ -7,6 +7,7 @@ pub use serializer::Phase;
 pub use serializer::Put;
 pub use serializer::Serializer;
 pub use serializer::Wrote;
+pub use steps::Flags;
 pub use steps::Progress;
 pub use steps::Step;
 pub use steps::begin_step;

@@ -1,4 +1,5 @@
 // The writer's record and its four calls.
+use crate::steps::Flags;
 use crate::steps::Progress;
 use crate::steps::Step;
 use crate::steps::begin_step;
@@ -71,7 +72,7 @@ impl Put {
 }
 
 // What a step and the flags that it left make of a call.
-fn pack(step: Step, flags: [bool; 200]) -> Wrote
+fn pack(step: Step, flags: Flags) -> Wrote
     ensures { λ r. ⌜ r .serializer ≡ joined (step .progress) flags ⌝ }
     ensures { λ r. ⌜ r .answer ≡ step .answer ⌝ }
 {

@@ -18,6 +18,9 @@ ghost use Rattle.sise_serializer.specs.Steps.{joined, Steps, putToken};
 // The most open lists.
 const DEEPEST: usize = 200;
 
+// A broken flag for each open list.
+pub type Flags = [bool; 200];
+
 // The writer's record without its flags. The two small fields come last, so that few bytes are unused.
 pub struct Progress {
     pub position: usize,
@@ -78,7 +81,7 @@ pub fn fresh_progress() -> Progress
 
 impl Progress {
     // The whole record.
-    pub fn join(self, flags: [bool; 200]) -> Serializer
+    pub fn join(self, flags: Flags) -> Serializer
         ensures { λ r. ⌜ r ≡ joined self flags ⌝ }
     {
         let phase = self.phase;
@@ -167,7 +170,7 @@ fn first_atom(progress: Progress, buf: &mut [u8], atom: &[u8], commit: bool) -> 
     }
 }
 
-fn first_list(progress: Progress, flags: &mut [bool; 200], buf: &mut [u8], commit: bool) -> Step
+fn first_list(progress: Progress, flags: &mut Flags, buf: &mut [u8], commit: bool) -> Step
     ensures { λ r. ⌜ Steps (place (length (now (buf .entry))) (joined progress (now (flags .entry))) (firstList (joined progress (now (flags .entry))))) (joined progress (now (flags .entry))) commit (now (buf .entry)) r (now (flags .exit)) (now (buf .exit)) ⌝ }
 {
     let position = progress.position;
@@ -197,7 +200,7 @@ fn first_list(progress: Progress, flags: &mut [bool; 200], buf: &mut [u8], commi
 // The record behind an item. A new list has no broken line yet.
 fn added(
     lists: usize,
-    flags: &mut [bool; 200],
+    flags: &mut Flags,
     is_list: bool,
     position: usize,
     line_len: usize,
@@ -228,7 +231,7 @@ fn added(
 // An item on a new line of its list, which is broken from then on.
 fn on_new_line(
     progress: Progress,
-    flags: &mut [bool; 200],
+    flags: &mut Flags,
     token: &[u8],
     is_list: bool,
     line_break: &[u8],
@@ -268,7 +271,7 @@ fn on_new_line(
 // An item in the same line, behind `lead`: a space or nothing.
 fn in_line(
     progress: Progress,
-    flags: &mut [bool; 200],
+    flags: &mut Flags,
     token: &[u8],
     is_list: bool,
     lead: &[u8],
@@ -305,7 +308,7 @@ fn in_line(
 // Behind the gap that the threshold asks for.
 fn inner(
     progress: Progress,
-    flags: &mut [bool; 200],
+    flags: &mut Flags,
     token: &[u8],
     is_list: bool,
     line_break: &[u8],
@@ -341,7 +344,7 @@ fn inner(
 // An atom that is one, into a sound record.
 fn put_sound(
     progress: Progress,
-    flags: &mut [bool; 200],
+    flags: &mut Flags,
     line_break: &[u8],
     indentation: &[u8],
     buf: &mut [u8],
@@ -374,7 +377,7 @@ fn put_sound(
 // Puts an atom that its caller has checked. In a list it goes on a new line if the line is at least `break_line_at` bytes long.
 pub fn put_step(
     progress: Progress,
-    flags: &mut [bool; 200],
+    flags: &mut Flags,
     line_break: &[u8],
     indentation: &[u8],
     buf: &mut [u8],
@@ -402,7 +405,7 @@ pub fn put_step(
 // Checks an atom and puts it.
 pub fn put_atom_step(
     progress: Progress,
-    flags: &mut [bool; 200],
+    flags: &mut Flags,
     line_break: &[u8],
     indentation: &[u8],
     buf: &mut [u8],
@@ -433,7 +436,7 @@ pub fn put_atom_step(
 // Begins a list. Inside another it goes on a new line if the line is at least `break_line_at` bytes long.
 pub fn begin_step(
     progress: Progress,
-    flags: &mut [bool; 200],
+    flags: &mut Flags,
     line_break: &[u8],
     indentation: &[u8],
     buf: &mut [u8],
@@ -481,23 +484,23 @@ fn phase_after(lists: usize) -> Phase
 }
 
 // The flags with so many lists left open after a close. A list that was broken breaks its parent.
-fn flags_after(flags: &mut [bool; 200], lists: usize, was_broken: bool)
-    requires { ⌜ lists < 200 ⌝ }
-    ensures { λ _. ⌜ now (flags .exit) ≡ flagsAfter (now (flags .entry)) lists «was_broken» ⌝ }
+fn flags_after(flags: &mut Flags, left: usize, was_broken: bool)
+    requires { ⌜ left < 200 ⌝ }
+    ensures { λ _. ⌜ now (flags .exit) ≡ flagsAfter (now (flags .entry)) left «was_broken» ⌝ }
 {
-    flags[lists] = false;
-    if lists == 0 {
+    flags[left] = false;
+    if left == 0 {
         return;
     }
     if was_broken {
-        flags[lists - 1] = true;
+        flags[left - 1] = true;
     }
 }
 
 // The record behind the `)` of the innermost list.
 fn closed(
     progress: Progress,
-    flags: &mut [bool; 200],
+    flags: &mut Flags,
     was_broken: bool,
     position: usize,
     line_len: usize,
@@ -525,7 +528,7 @@ fn closed(
 // The `)` of the innermost list, on a line of its own if a line was broken in it.
 fn close(
     progress: Progress,
-    flags: &mut [bool; 200],
+    flags: &mut Flags,
     line_break: &[u8],
     indentation: &[u8],
     buf: &mut [u8],
@@ -574,7 +577,7 @@ fn close(
 // Ends the innermost list that is open.
 pub fn end_step(
     progress: Progress,
-    flags: &mut [bool; 200],
+    flags: &mut Flags,
     line_break: &[u8],
     indentation: &[u8],
     buf: &mut [u8],
@@ -635,7 +638,7 @@ fn last(
 // Finishes the text. Only after that is it whole. `indentation` and `flags` are unused: every step takes the same.
 pub fn finish_step(
     progress: Progress,
-    flags: &mut [bool; 200],
+    flags: &mut Flags,
     line_break: &[u8],
     indentation: &[u8],
     buf: &mut [u8],

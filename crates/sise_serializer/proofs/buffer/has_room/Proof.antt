@@ -1,20 +1,28 @@
--- Where one string has more bytes than are left, none fits; else the product decides, and is small.
+-- A small product is formed, and decides; else without bytes everything fits, and n strings of s bytes fit into m bytes exactly if n is at most m / s.
 -- Assumes nothing.
 use native.Mathlib.Nat.{mul-le-mul-right}
 use native.Mathlib.Omega.{arith}
-use mathlib.Core.Path.{refl}
-use Rattle.sise_serializer.proofs.Tests.{fit-large}
+use mathlib.Core.Path.{sym}
+use borrow.Author.Needs.{needs}
+use borrow.Author.Tests.{leb-true}
+use Rattle.sise_serializer.proofs.Tests.{fit-none, fit-some}
 use Rattle.sise_serializer.proofs.buffer.has_room.Statement.{statement}
 use Rattle.sise_serializer.proofs.buffer.has_room.Tie as tie
 
-returns : tie.Need-returns
-returns c = let a = c .before .args in fit-large (a .left) (a .times) (a .size) (omega arith)
-
 mul-result : tie.Need-mul-result
-mul-result c = let a = c .before .args in omega (arith, mul-le-mul-right (a .size) (c .before .pre .1))
+mul-result c = let a = c .before .before .args in omega (arith, leb-true, mul-le-mul-right (a .size) (c .before .if1 .taken))
+
+returns : tie.Need-returns
+returns c = search needs
 
 returns-2 : tie.Need-returns-2
-returns-2 c = refl
+returns-2 c = let a = c .before .before .args in sym (fit-none (a .left) (a .times) (a .size) (c .if3 .taken))
+
+div-result : tie.Need-div-result
+div-result c = search needs
+
+returns-3 : tie.Need-returns-3
+returns-3 c = let a = c .before .before .args in fit-some (a .left) (a .times) (a .size) (c .if3 .left)
 
 pub has-room-spec : {M : Type 1} → statement M
-has-room-spec = tie.close (tie.spec returns mul-result returns-2)
+has-room-spec = tie.close (tie.spec mul-result returns returns-2 div-result returns-3)

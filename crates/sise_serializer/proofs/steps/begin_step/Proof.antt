@@ -1,14 +1,15 @@
 -- Each return is the definition's answer at the test of the record, at the phase and at the depth.
 -- Assumes nothing.
+use native.Mathlib.Omega.{arith}
 use mathlib.Core.Path.{_≡_, refl, sym, _∙_}
 use mathlib.Core.Bool.{true}
 use borrow.Author.Needs.{needs}
-use borrow.Author.Tests.{lt-ltb, le-ltb, not-true, not-false}
+use borrow.Author.Tests.{not-true, not-false}
 use Rattle.sise_serializer.specs.Steps.{joined}
 use Rattle.sise_serializer.specs.declared.serializer.Serializer.{Serializer}
 use Rattle.sise_serializer.specs.Serializer.{isSound, beginIn}
 use Rattle.sise_serializer.proofs.Sound.{small, writing-lists}
-use Rattle.sise_serializer.proofs.Does.{refused-steps, begin-unsound, begin-sound}
+use Rattle.sise_serializer.proofs.Does.{refused-steps, begin-unsound, begin-sound, begin-inner, begin-too-deep}
 use Rattle.sise_serializer.proofs.steps.begin_step.Statement.{statement}
 use Rattle.sise_serializer.proofs.steps.begin_step.Tie as tie
 
@@ -50,14 +51,13 @@ refused-requires-2 : tie.Need-refused-requires-2
 refused-requires-2 c κs = search needs
 
 returns-2 : tie.Need-returns-2
-unfolding beginIn
 returns-2 c =
     let test = c .before in
     let told = test .before .before in
     let el = told .before .before in
     let st = start (el .before) in
     let a = st .args in
-    rw (begin-sound _ _ (whole st) _ (is-sound el) (told .enum-told2 .given .1), le-ltb _ _ (test .if2 .taken)) (refused-steps (a .progress) (a .flags .now) (a .commit) (a .buf .now) 21 (c .refused2 .ensures) refl)
+    rw (begin-sound _ _ (whole st) _ (is-sound el) (told .enum-told2 .given .1), begin-too-deep _ _ (whole st) _ (omega arith)) (refused-steps (a .progress) (a .flags .now) (a .commit) (a .buf .now) 21 (c .refused2 .ensures) refl)
 
 slice-aggregate-inner : tie.Need-slice-aggregate-inner
 slice-aggregate-inner c = search needs
@@ -68,7 +68,7 @@ inner-requires c κs =
     let told = e2 .before .before in
     let el = told .before .before in
     let st = start (el .before) in
-    ((small (st .args .progress) (st .args .flags .now) (is-sound el), writing-lists (whole st) (is-sound el) (told .enum-told2 .given .1)), λ _. e2 .if2 .left)
+    ((small (st .args .progress) (st .args .flags .now) (is-sound el), writing-lists (whole st) (is-sound el) (told .enum-told2 .given .1)), λ _. omega arith)
 
 enum-told-3 : tie.Need-enum-told-3
 enum-told-3 c = search needs
@@ -97,13 +97,13 @@ same-length-2 : tie.Need-same-length-2
 same-length-2 c = search needs
 
 returns-4 : tie.Need-returns-4
-unfolding beginIn
 returns-4 c =
     let item = c .before .before in
     let e2 = item .before .before .before .before in
     let told = e2 .before .before in
     let el = told .before .before in
-    rw (begin-sound _ _ (whole (start (el .before))) _ (is-sound el) (told .enum-told2 .given .1), lt-ltb _ _ (e2 .if2 .left)) (item .inner .ensures)
+    let w = whole (start (el .before)) in
+    rw (begin-sound _ _ w _ (is-sound el) (told .enum-told2 .given .1), begin-inner _ _ w _ (omega arith)) (item .inner .ensures)
 
 returns-5 : tie.Need-returns-5
 unfolding beginIn

@@ -2,13 +2,14 @@
 -- Assumes nothing.
 use native.Mathlib.Nat.{add-zero}
 use native.Mathlib.Omega.{arith}
+use mathlib.Core.Path.{_∙_}
 use mathlib.Core.Bool.{Bool}
 use mathlib.Core.List.{List, []}
 use borrow.Author.Needs.{needs}
 use Rattle.sise_serializer.specs.Serializer.{Piece, style, last}
 use Rattle.sise_serializer.specs.Steps.{joined}
 use Rattle.sise_serializer.proofs.Tests.{one-at-most}
-use Rattle.sise_serializer.proofs.Does.{placed-steps, full-steps, last-placed, counted}
+use Rattle.sise_serializer.proofs.Does.{placed-steps, full-steps, last-placed, last-after, counted}
 use Rattle.sise_serializer.proofs.steps.last.Statement.{statement}
 use Rattle.sise_serializer.proofs.steps.last.Tie as tie
 
@@ -29,9 +30,7 @@ slice-aggregate-place-2 : tie.Need-slice-aggregate-place-2
 slice-aggregate-place-2 c = search needs
 
 place-requires : tie.Need-place-requires
-place-requires c κs =
-    let one = c .before .before .before in
-    omega (arith, one .one-if .ensures, one-at-most (start one .args .insert-line-break))
+place-requires c κs = search needs
 
 enum-known-at : tie.Need-enum-known-at
 enum-known-at c = search needs
@@ -60,7 +59,7 @@ returns c =
     let a = start one .args in
     let wished = a .insert-line-break in
     placed-steps (a .progress) flags (a .commit) (a .buf .now) (piece (start one) flags) (last-placed wished (a .line-break .now) (one .one-if .ensures) (pl .place .ensures)) (at .at .given .1)
-    (λ x. rw (x, counted wished (a .progress .breaks) (one .one-if .ensures), add-zero))
+    (λ x. last-after (a .line-break .now) (a .progress) flags wished (x ∙ add-zero _) (counted wished (a .progress .breaks) (one .one-if .ensures)))
 
 same-length-2 : tie.Need-same-length-2
 same-length-2 c = search needs
