@@ -3,9 +3,11 @@
 
 extern crate alloc;
 
+mod trees;
 mod writing;
 
 use std::time::Instant;
+use trees::Trees;
 use writing::Writing;
 
 mod util {
@@ -20,7 +22,23 @@ mod serializer {
     include!(concat!(env!("SISE_SRC"), "/serializer.rs"));
 }
 
-use parser::{ParsedItem, Parser};
+mod parse_tree {
+    include!(concat!(env!("SISE_SRC"), "/parse_tree.rs"));
+}
+
+mod serialize_tree {
+    include!(concat!(env!("SISE_SRC"), "/serialize_tree.rs"));
+}
+
+/// The crate's `tree`; most of its methods are called by no row.
+#[allow(dead_code)]
+mod tree_node {
+    include!(concat!(env!("SISE_SRC"), "/tree.rs"));
+}
+
+pub use parser::{ParseError, ParsedItem, Parser};
+pub use serializer::Serializer;
+pub use tree_node::TreeNode;
 pub use util::{check_atom, is_atom_chr, is_atom_string_chr};
 
 extern "C" {
@@ -53,10 +71,13 @@ fn crate_items(text: &str) -> u64 {
 
 const ROUNDS: usize = 30;
 
-fn seconds(mut run: impl FnMut() -> u64) -> f64 {
+/// What the run gives is dropped outside the time.
+fn seconds<T>(mut run: impl FnMut() -> T) -> f64 {
     let start = Instant::now();
-    std::hint::black_box(run());
-    start.elapsed().as_secs_f64()
+    let result = std::hint::black_box(run());
+    let time = start.elapsed().as_secs_f64();
+    drop(result);
+    time
 }
 
 /// The least times of the library and of the crate, in seconds.
@@ -89,15 +110,76 @@ fn row(name: &str, text: &str) {
 fn written(name: &str, text: &str, threshold: usize) {
     let mut writing = Writing::new(text, threshold);
     assert!(writing.agrees());
+    let mut best = (f64::MAX, f64::MAX, f64::MAX);
+    for _ in 0..ROUNDS {
+        best.0 = best.0.min(seconds(|| writing.by_library(false)));
+        best.1 = best.1.min(seconds(|| writing.by_library(true)));
+        best.2 = best.2.min(seconds(|| writing.by_crate()));
+    }
+    let (library, singly, original) = best;
+    let calls = writing.calls();
+    let time = |seconds: f64| seconds / calls as f64 * 1e9;
+    print!("{name:<28} {calls:>10} calls {:>8.0} ns/call {:>7.2}", time(library), original / library);
+    println!(" {:>8.0} ns/call {:>7.2}", time(singly), original / singly);
+}
+
+/// A text read into a tree.
+fn tree_read(name: &str, text: &str) {
+    let mut trees = Trees::new(text);
     let mut best = (f64::MAX, f64::MAX);
     for _ in 0..ROUNDS {
-        best.0 = best.0.min(seconds(|| writing.by_library()));
-        best.1 = best.1.min(seconds(|| writing.by_crate()));
+        best.0 = best.0.min(seconds(|| trees.parse_by_library()));
+        best.1 = best.1.min(seconds(|| trees.parse_by_crate()));
     }
     let (library, original) = best;
-    let calls = writing.calls();
-    let time = library / calls as f64 * 1e9;
-    println!("{name:<28} {calls:>10} calls {time:>8.0} ns/call {:>7.2}", original / library);
+    let rate = text.len() as f64 / library / 1e6;
+    println!("{name:<28} {:>10} bytes {rate:>8.0} MB/s {:>8.2}", text.len(), original / library);
+}
+
+/// A text's tree written again.
+fn tree_written(name: &str, text: &str, threshold: usize) {
+    let mut trees = Trees::new(text);
+    assert!(trees.agree(threshold));
+    let mut best = (f64::MAX, f64::MAX);
+    for _ in 0..ROUNDS {
+        best.0 = best.0.min(seconds(|| trees.write_by_library(threshold)));
+        best.1 = best.1.min(seconds(|| trees.write_by_crate(threshold)));
+    }
+    let (library, original) = best;
+    let written = trees.write_by_crate(threshold);
+    let rate = written as f64 / library / 1e6;
+    println!("{name:<28} {written:>10} bytes {rate:>8.0} MB/s {:>8.2}", original / library);
+}
+
+/// A path through a text's tree.
+fn tree_indexed(name: &str, text: &str, path: &[usize]) {
+    let trees = Trees::new(text);
+    let words: Vec<u64> = path.iter().map(|&step| step as u64).collect();
+    assert!(trees.index_by_crate(path).is_some() && trees.index_by_library(&words) < text.len() as u64);
+    let mut best = (f64::MAX, f64::MAX);
+    for _ in 0..ROUNDS {
+        best.0 = best.0.min(seconds(|| trees.index_by_library(std::hint::black_box(&words))));
+        best.1 = best.1.min(seconds(|| trees.index_by_crate(std::hint::black_box(path)).is_some()));
+    }
+    let (library, original) = best;
+    println!("{name:<28} {:>10} bytes {:>8.1} us {:>10.4}", text.len(), library * 1e6, original / library);
+}
+
+fn trees(size: usize) {
+    println!("{:<28} {:>16} {:>13} {:>8}", "trees", "", "library", "ratio");
+    let profile = typical(size);
+    let flat = list_of("x 12 -0.5 ", size);
+    let deep = list_of(&format!("{}{} ", "(".repeat(150), ")".repeat(150)), size);
+    tree_read("read, typical profile", &profile);
+    tree_read("read, flat", &flat);
+    tree_read("read, deep", &deep);
+    for (place, threshold) in [("broken", 0), ("at 80", 80), ("one line", usize::MAX)] {
+        tree_written(&format!("written, typical, {place}"), &profile, threshold);
+    }
+    tree_written("written, flat, at 80", &flat, 80);
+    tree_written("written, deep, one line", &deep, usize::MAX);
+    tree_indexed("path, typical profile", &profile, &[1, 4, 2, 1]);
+    tree_indexed("path, 10 kB", &typical(10_000), &[1, 4, 2, 1]);
 }
 
 fn main() {
@@ -112,7 +194,7 @@ fn main() {
     for size in [10_000, 100_000, 1_000_000, 16_000_000] {
         row("typical profile, growing", &typical(size));
     }
-    println!("{:<28} {:>16} {:>16} {:>7}", "writing", "", "library", "ratio");
+    println!("{:<28} {:>16} {:>16} {:>7} {:>16} {:>7}", "writing", "", "library", "ratio", "one at a time", "ratio");
     let profile = typical(SIZE);
     written("typical profile, broken", &profile, 0);
     written("typical profile, at 80", &profile, 80);
@@ -120,4 +202,5 @@ fn main() {
     let long = list_of(&format!("{} ", "travel-limit.".repeat(100)), SIZE);
     written("long atoms, at 80", &long, 80);
     written("one atom alone", "limit", 80);
+    trees(SIZE);
 }

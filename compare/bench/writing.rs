@@ -1,4 +1,4 @@
-//! Writing: the same list of calls by the library's write_calls and by the crate's `Serializer`.
+//! Writing: the same list of calls by the library, all in one or each by its method, and by the crate's `Serializer`.
 
 use crate::parser::{ParsedItem, Parser};
 use crate::serializer::{Serializer, SerializerStyle};
@@ -18,9 +18,23 @@ extern "C" {
         answers: *mut u64,
         answers_len: usize,
     ) -> u64;
+    fn sise_write_calls_singly(
+        words: *const u64,
+        words_len: usize,
+        atoms: *const u8,
+        atoms_len: usize,
+        line_break: *const u8,
+        line_break_len: usize,
+        indentation: *const u8,
+        indentation_len: usize,
+        buf: *mut u8,
+        buf_len: usize,
+        answers: *mut u64,
+        answers_len: usize,
+    ) -> u64;
 }
 
-const STYLE: SerializerStyle<'static> = SerializerStyle {
+pub const STYLE: SerializerStyle<'static> = SerializerStyle {
     line_break: "\n",
     indentation: "  ",
 };
@@ -95,10 +109,12 @@ impl<'a> Writing<'a> {
         self.answers.len()
     }
 
-    pub fn by_library(&mut self) -> u64 {
+    /// All calls in one, or each by the writer's method of its own.
+    pub fn by_library(&mut self, singly: bool) -> u64 {
+        let run = if singly { sise_write_calls_singly } else { sise_write_calls };
         // All six slices outlive the call, and the two that it writes are borrowed by nobody else.
         unsafe {
-            sise_write_calls(
+            run(
                 self.words.as_ptr(),
                 self.words.len(),
                 self.atoms.as_ptr(),
@@ -129,10 +145,13 @@ impl<'a> Writing<'a> {
         self.out.len() as u64
     }
 
-    /// Both sides wrote the same text.
+    /// Both sides wrote the same text, the library in either way.
     pub fn agrees(&mut self) -> bool {
-        let n = self.by_library() as usize;
         self.by_crate();
-        self.buffer[..n] == *self.out.as_bytes()
+        [false, true].into_iter().all(|singly| {
+            self.buffer.fill(0);
+            let n = self.by_library(singly) as usize;
+            self.buffer[..n] == *self.out.as_bytes()
+        })
     }
 }

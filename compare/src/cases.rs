@@ -64,7 +64,7 @@ pub fn to_the_end(text: Vec<u8>) -> Case {
 }
 
 /// How many calls of `next_item` there are until each further one gives the same.
-fn calls_to_the_end(text: &[u8]) -> usize {
+pub fn calls_to_the_end(text: &[u8]) -> usize {
     let mut reader = Model::new(text);
     let mut calls = 0;
     while reader.record().phase != Phase::Finishing && reader.record().position < text.len() {
@@ -125,7 +125,7 @@ impl Maker {
         }
     }
 
-    fn text(&mut self, kind: Kind) -> Vec<u8> {
+    pub fn text(&mut self, kind: Kind) -> Vec<u8> {
         let size = self.size();
         let random = &mut self.random;
         match kind {

@@ -4,10 +4,11 @@
 //!     compare/run reader [WORDS] [--replay PATH]           the program replay (default target/bin/replay) against the crate's Parser
 //!     compare/run model [WORDS]                            document 01's rules, as model.rs has them, against the crate's Parser
 //!     compare/run writer [WORDS] [--replay PATH]           replay against document 01's rules for the writer, and these against the crate's Serializer
+//!     compare/run tree [WORDS] [--replay PATH]             replay against document 01's rules for trees, and these against the crate's tree calls
 //!     compare/run sample script                            a fixed sample of the cases, for crates/replay/stdin
 //!     compare/run sample answers                           what replay has to print for it, for crates/replay/stdout
 //!
-//! WORDS: --quick makes 40,000 cases rather than 1,000,000; --cases N makes N; --seed S makes other random ones.
+//! WORDS: --quick makes 40,000 cases rather than 1,000,000 (tree: 300,000); --cases N makes N; --seed S makes other random ones.
 //! The exit status is 1 where something differs, 2 where the mode can't be run.
 //!
 //! The crate's files are included unchanged, in modules of this program, so that a mode can read their private state.
@@ -30,6 +31,12 @@ mod reading;
 mod replay;
 mod sample;
 mod script;
+mod tree;
+mod tree_case;
+mod tree_cases;
+mod tree_examples;
+mod tree_judge;
+mod tree_model;
 mod writer;
 mod writer_cases;
 mod writer_judge;
@@ -123,6 +130,25 @@ mod serializer {
     }
 }
 
+mod parse_tree {
+    include!(concat!(env!("SISE_SRC"), "/parse_tree.rs"));
+}
+
+mod serialize_tree {
+    include!(concat!(env!("SISE_SRC"), "/serialize_tree.rs"));
+}
+
+/// The crate's `tree`; most of its methods are called by no mode.
+#[allow(dead_code)]
+mod tree_node {
+    include!(concat!(env!("SISE_SRC"), "/tree.rs"));
+}
+
+pub use parse_tree::parse_tree;
+pub use parser::{ParseError, ParsedItem, Parser};
+pub use serialize_tree::serialize_tree;
+pub use serializer::Serializer;
+pub use tree_node::TreeNode;
 pub use util::{check_atom, is_atom_chr, is_atom_string_chr};
 
 use std::process::ExitCode;
@@ -139,9 +165,10 @@ fn main() -> ExitCode {
         "reader" => reader::run(rest),
         "model" => judge::run(rest),
         "writer" => writer::run(rest),
+        "tree" => tree::run(rest),
         "sample" => sample::run(rest),
         _ => Err(String::from(
-            "the modes are: characters, reader, model, writer, sample",
+            "the modes are: characters, reader, model, writer, tree, sample",
         )),
     };
     match done {

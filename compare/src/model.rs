@@ -21,6 +21,16 @@ impl<'a> Model<'a> {
             record: FRESH,
         }
     }
+
+    /// The reader after so many calls of `next_item`.
+    pub fn after(text: &'a [u8], calls: usize) -> Self {
+        let mut reader = Self::new(text);
+        for _ in 0..calls {
+            // Only the record it leaves counts here.
+            let _ = reader.next_item();
+        }
+        reader
+    }
 }
 
 impl<'a> Reader<'a> for Model<'a> {

@@ -2,6 +2,8 @@
 
 use crate::parser::{ParseError, ParsedItem, Parser};
 use crate::reading::{Answer, Item, Phase, Reader, Reading, Record, Refusal};
+use crate::TreeNode;
+use std::panic::{catch_unwind, AssertUnwindSafe};
 
 pub struct Original<'a> {
     parser: Parser<'a>,
@@ -12,6 +14,24 @@ impl<'a> Original<'a> {
         Self {
             parser: Parser::new(text),
         }
+    }
+
+    /// The reader after so many calls of `next_item`.
+    pub fn after(text: &'a str, calls: usize) -> Self {
+        let mut reader = Self::new(text);
+        for _ in 0..calls {
+            // Only the state it leaves counts here.
+            let _ = reader.next_item();
+        }
+        reader
+    }
+
+    /// `None` where the crate panics.
+    pub fn parse_tree(&mut self) -> Option<Result<TreeNode, Refusal>> {
+        let parse = AssertUnwindSafe(|| crate::parse_tree(&mut self.parser));
+        catch_unwind(parse)
+            .ok()
+            .map(|found| found.map_err(refusal))
     }
 }
 
@@ -93,10 +113,15 @@ impl Masked {
             .map(|(answer, _)| answer.as_mut().err());
         let finish = reading.finish.as_mut().map(|answer| answer.as_mut().err());
         for refusal in answers.chain(finish).flatten() {
-            if matches!(refusal.number, 1..=3) && self.replaced[refusal.place] {
-                *refusal = Refusal::at(8, refusal.place);
-            }
+            *refusal = self.unmask_refusal(*refusal);
         }
         reading
+    }
+
+    pub fn unmask_refusal(&self, refusal: Refusal) -> Refusal {
+        if matches!(refusal.number, 1..=3) && self.replaced[refusal.place] {
+            return Refusal::at(8, refusal.place);
+        }
+        refusal
     }
 }

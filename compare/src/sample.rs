@@ -7,6 +7,10 @@ use crate::examples;
 use crate::judge::Judge;
 use crate::reading::Case;
 use crate::replay::Judges;
+use crate::tree_case::TreeCase;
+use crate::tree_cases;
+use crate::tree_examples;
+use crate::tree_judge::TreeJudge;
 use crate::writer_cases;
 use crate::writer_judge::{silenced, WriterJudge};
 use crate::writing::WriterCase;
@@ -30,6 +34,15 @@ pub fn run(words: &[String]) -> Result<bool, String> {
     }
     script.extend_from_slice(&writer_script);
     answers.extend_from_slice(&writer_answers);
+    let mut tree_judge = TreeJudge::default();
+    let (tree_script, tree_answers) = silenced(|| tree_judge.script_and_answers(&tree_sample()));
+    if tree_judge.disagreements.count > 0 {
+        return Err(String::from(
+            "the trees' model and crate disagree on the sample",
+        ));
+    }
+    script.extend_from_slice(&tree_script);
+    answers.extend_from_slice(&tree_answers);
     if script.len() >= LARGEST_SCRIPT {
         return Err(format!("the sample's script has {} bytes", script.len()));
     }
@@ -66,5 +79,16 @@ fn writer_sample() -> Vec<WriterCase> {
     cases.extend(writer_cases::exhaustive(3).step_by(293));
     let mut maker = writer_cases::Maker::new(0, 60);
     cases.extend((0..90).map(|_| maker.case()));
+    cases
+}
+
+/// The examples, some deep trees, some short texts, and random ones.
+fn tree_sample() -> Vec<TreeCase> {
+    let mut cases = tree_examples::cases();
+    // Primes, so that the steps go through every threshold and depth.
+    cases.extend(tree_cases::deep().into_iter().step_by(17));
+    cases.extend(tree_cases::short(3, 0).step_by(11));
+    let mut maker = tree_cases::Maker::new(0, 100);
+    cases.extend((0..40).map(|_| maker.random_case()));
     cases
 }

@@ -36,10 +36,8 @@ fn put_item(out: &mut Vec<u8>, answer: &Answer, record: &Record) {
         Ok(Item::ListEnd(place)) => format!("E {place}"),
         Err(refusal) => refused(refusal),
     };
-    let phase = record.phase as u8;
-    let state = format!(" | {} {phase} {}", record.position, record.lists);
     out.extend_from_slice(words.as_bytes());
-    out.extend_from_slice(state.as_bytes());
+    put_record(out, record);
     if let Ok(Item::Atom(_, bytes)) = answer {
         out.extend_from_slice(b" | ");
         out.extend_from_slice(bytes);
@@ -47,6 +45,12 @@ fn put_item(out: &mut Vec<u8>, answer: &Answer, record: &Record) {
     out.push(b'\n');
 }
 
-fn refused(refusal: &Refusal) -> String {
+pub fn put_record(out: &mut Vec<u8>, record: &Record) {
+    let phase = record.phase as u8;
+    let state = format!(" | {} {phase} {}", record.position, record.lists);
+    out.extend_from_slice(state.as_bytes());
+}
+
+pub fn refused(refusal: &Refusal) -> String {
     format!("! {} {} {}", refusal.number, refusal.place, refusal.code)
 }

@@ -7,7 +7,7 @@ use crate::writing::{Call, Style, WriterCase, LARGEST_ROOM};
 
 const LARGEST: u64 = u64::MAX;
 
-const STYLES: [Style; 5] = [
+pub const STYLES: [Style; 5] = [
     style("\n", "  "),
     style("\r\n", "\t"),
     style("\n", ""),
@@ -15,7 +15,7 @@ const STYLES: [Style; 5] = [
     style("", ""),
 ];
 
-const fn style(line_break: &'static str, indentation: &'static str) -> Style {
+pub const fn style(line_break: &'static str, indentation: &'static str) -> Style {
     Style {
         line_break,
         indentation,

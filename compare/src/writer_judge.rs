@@ -107,7 +107,7 @@ impl Judges<WriterCase> for WriterJudge {
 }
 
 /// A call's answer and the record after it.
-fn put_line(out: &mut Vec<u8>, answer: Result<usize, u8>, model: &Model) {
+pub fn put_line(out: &mut Vec<u8>, answer: Result<usize, u8>, model: &Model) {
     let words = match answer {
         Ok(offset) => format!("@ {offset}"),
         Err(number) => format!("! {number}"),
@@ -116,13 +116,13 @@ fn put_line(out: &mut Vec<u8>, answer: Result<usize, u8>, model: &Model) {
     out.extend_from_slice(model.record().as_bytes());
 }
 
-/// The crate's threshold is a `usize`, here as wide as document 01's.
-fn wide(threshold: u64) -> usize {
-    usize::try_from(threshold).expect("a target of 64 bits")
+/// The crate's thresholds and indices are `usize`, here as wide as document 01's.
+pub fn wide(number: u64) -> usize {
+    usize::try_from(number).expect("a target of 64 bits")
 }
 
 /// Makes the call, which `finish` uses the writer up for.
-fn call_original<'a, 'b>(
+pub fn call_original<'a, 'b>(
     mut serializer: Serializer<'a, 'b>,
     call: &Call,
 ) -> Option<Serializer<'a, 'b>> {
@@ -157,7 +157,7 @@ fn panics(serializer: &Serializer, call: &Call) -> bool {
 }
 
 /// Whether the crate has the model's text and, while it writes, its record.
-fn agree(model: &Model, serializer: &Serializer) -> bool {
+pub fn agree(model: &Model, serializer: &Serializer) -> bool {
     let kept = (model.phase == Phase::Writing).then(|| Kept {
         broken: model.broken.clone(),
         list_beginning: model.list_beginning,

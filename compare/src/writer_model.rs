@@ -2,7 +2,7 @@
 
 use crate::writing::{Call, Style};
 
-const MOST_LISTS: usize = 200;
+pub const MOST_LISTS: usize = 200;
 const LIMIT: usize = 16_777_216;
 
 /// The numbers are the script's.
@@ -187,7 +187,7 @@ impl Model {
 }
 
 /// One or more atom characters and strings; a string is two quotes about string characters and pairs that begin with `\`.
-fn is_atom(bytes: &[u8]) -> bool {
+pub fn is_atom(bytes: &[u8]) -> bool {
     let mut rest = bytes;
     while let Some((&first, after)) = rest.split_first() {
         let piece = match first {

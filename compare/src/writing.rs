@@ -26,8 +26,8 @@ pub struct WriterCase {
 /// The largest buffer that replay takes.
 pub const LARGEST_ROOM: usize = 4096;
 
-/// The threshold's number in a script, where 999999999 stands for the largest.
-fn number(threshold: u64) -> u64 {
+/// A number of 64 bits in a script, where 999999999 stands for the largest.
+pub fn number(threshold: u64) -> u64 {
     if threshold == u64::MAX {
         999_999_999
     } else {

@@ -1,10 +1,14 @@
 // The worked table and its paths; and the tree written again.
+use crate::line::put_text;
 use crate::line::put_word;
 use crate::rows::put_indexed;
 use crate::rows::put_parsed;
 use sise_parser::Reader;
+use sise_serializer::Serializer;
 use sise_tree::index_path;
 use sise_tree::parse_tree;
+use sise_tree::serialize_house;
+use sise_tree::serialize_tree;
 
 // The table's words, four a line.
 fn put_words(out: &mut [u8], from: usize, table: &[u32]) -> usize {
@@ -25,12 +29,31 @@ fn put_paths(out: &mut [u8], at: usize, text: &[u8], table: &[u32]) -> usize {
     put_indexed(out, at, b"path 0 0", index_path(table, text, &[0, 0]))
 }
 
+// The tree on one line, and in house style.
+fn put_again(out: &mut [u8], at: usize, text: &[u8], table: &[u32]) -> usize {
+    let mut buf = [0u8; 64];
+    let largest = 18446744073709551615;
+    let line = serialize_tree(
+        Serializer::new(),
+        b"\n",
+        b"  ",
+        &mut buf,
+        text,
+        table,
+        largest,
+    ).serializer;
+    let at = put_text(out, at, &buf, line.position);
+    let house = serialize_house(&mut buf, text, table).serializer;
+    put_text(out, at, &buf, house.position)
+}
+
 fn put_tree(out: &mut [u8], at: usize, text: &[u8]) -> usize {
     let mut table = [7u32; 28];
     let answer = parse_tree(text, Reader::new(), &mut table).answer;
     let at = put_parsed(out, at, b"nodes", answer);
     let at = put_words(out, at, &table);
-    put_paths(out, at, text, &table)
+    let at = put_paths(out, at, text, &table);
+    put_again(out, at, text, &table)
 }
 
 pub(crate) fn put_trees(out: &mut [u8], at: usize) -> usize {

@@ -2,36 +2,16 @@
 // ends. The last line is `ok`, or, at the first refusal, `refused number place` with document 01's number, and the place 0 where it has none. A text of
 // more than 65,536 bytes gives the one line `long`.
 use libc::STDIN_FILENO;
+use lines::put_item;
+use lines::put_number;
 use sise_parser::Answer;
 use sise_parser::Finished;
 use sise_parser::ParseError;
-use sise_parser::ParsedItem;
 use sise_parser::Phase;
 use sise_parser::Reader;
 
 // No line is longer.
 const LINE: usize = 64;
-
-fn put_number(out: &mut [u8], at: usize, n: usize) -> usize {
-    let at = lines::put_byte(out, at, b' ');
-    lines::put_decimal(out, at, n as u64)
-}
-
-fn put_letter(out: &mut [u8], at: usize, letter: u8, place: usize) -> usize {
-    let at = lines::put_byte(out, at, letter);
-    put_number(out, at, place)
-}
-
-fn put_item(out: &mut [u8], at: usize, item: ParsedItem) -> usize {
-    match item {
-        ParsedItem::ListStart { pos } => put_letter(out, at, b'L', pos),
-        ParsedItem::Atom { pos, len } => {
-            let at = put_letter(out, at, b'A', pos);
-            put_number(out, at, len)
-        }
-        ParsedItem::ListEnd { pos } => put_letter(out, at, b'E', pos),
-    }
-}
 
 fn put_refused(out: &mut [u8], at: usize, error: ParseError) -> usize {
     let at = lines::put_bytes(out, at, b"refused");

@@ -1,8 +1,11 @@
 // Text for a program's output, put together in a lent buffer so that it is written in blocks. What does not fit is cut off.
+mod item;
+
+pub use item::put_item;
 ghost use mathlib.Core.Path.{_≡_};
 ghost use mathlib.Core.List.{[], _∷_};
 ghost use lib.ListN.{length};
-ghost use Rattle.lines.specs.Put.{Puts, PutsDecimal};
+ghost use Rattle.lines.specs.Put.{Puts, PutsDecimal, PutsNumber, PutsLetter};
 ghost use Rattle.lines.specs.Block.{placeWithRoom};
 use libc::STDOUT_FILENO;
 
@@ -38,6 +41,22 @@ pub fn put_decimal(out: &mut [u8], at: usize, n: u64) -> usize
     let mut text = [0u8; 20];
     let k = io::decimal(n, &mut text);
     put_bytes(out, at, &text[..k])
+}
+
+// Puts a space and the decimal digits of n.
+pub fn put_number(out: &mut [u8], at: usize, n: usize) -> usize
+    ensures { λ r. ⌜ PutsNumber (now (out .entry)) at n r (now (out .exit)) ⌝ }
+{
+    let at = put_byte(out, at, b' ');
+    put_decimal(out, at, n as u64)
+}
+
+// Puts a letter, and a number after it.
+pub fn put_letter(out: &mut [u8], at: usize, letter: u8, n: usize) -> usize
+    ensures { λ r. ⌜ PutsLetter (now (out .entry)) at letter n r (now (out .exit)) ⌝ }
+{
+    let at = put_byte(out, at, letter);
+    put_number(out, at, n)
 }
 
 // Writes the bytes before `at` of the buffer to standard output, and answers where the next block begins. No contract can say what is written.

@@ -3,9 +3,12 @@
 use Prim.Native.Nat.{ℕ, _+_, _≤_, _<_}
 use Rattle.replay.specs.declared.script.Ran.{Ran}
 use Rattle.replay.specs.declared.script.Number.{Number}
-use Rattle.replay.specs.declared.script.ReaderCase.{ReaderCase}
+use Rattle.replay.specs.declared.script.TextCase.{TextCase}
 use Rattle.replay.specs.declared.script.WriterCase.{WriterCase}
+use Rattle.replay.specs.declared.script.Asked.{Asked}
 use Rattle.replay.specs.declared.script.Call.{Call}
+use Rattle.replay.specs.declared.tree_script.TreeLine.{TreeLine}
+use Rattle.replay.specs.declared.tree_script.Numbers.{Numbers}
 
 -- the next case lies after the place
 abbrev pub Onward : ℕ → Ran → Type 0
@@ -17,17 +20,31 @@ abbrev pub NumberFrom : ℕ → ℕ → Number → Type 0
 NumberFrom from n (Number.Read value next) = (from < next) × (next ≤ n)
 NumberFrom from n Number.Malformed = Unit {0}
 
--- so does a text with a byte after it
-abbrev pub TextFrom : ℕ → ℕ → ReaderCase → Type 0
-TextFrom from n (ReaderCase.Read start len calls finish) = (from < start) × (start + len < n)
-TextFrom from n ReaderCase.Malformed = Unit {0}
+-- so does a text with a byte after it, and the line's last number is no greater than the most
+abbrev pub TextFrom : ℕ → ℕ → ℕ → TextCase → Type 0
+TextFrom from n most (TextCase.Read start len calls last) = (from < start) × (start + len < n) × (last ≤ most)
+TextFrom from n most TextCase.Malformed = Unit {0}
 
 -- so do a line break and an indentation, for a buffer of 4096 bytes at most
 abbrev pub StyleFrom : ℕ → ℕ → WriterCase → Type 0
 StyleFrom from n (WriterCase.Read room start lineBreak indentation calls) = (from < start) × (start + lineBreak + indentation < n) × (room ≤ 4096)
 StyleFrom from n WriterCase.Malformed = Unit {0}
 
--- so does a call, and its atom
+-- a call's atom lies in a script of n bytes
+abbrev pub AtomIn : ℕ → Asked → Type 0
+AtomIn n a = (a .start ≤ a .end) × (a .end ≤ n)
+
+-- so does a call from the place on
 abbrev pub CallFrom : ℕ → ℕ → Call → Type 0
-CallFrom from n (Call.Read letter number start end next) = (from < next) × (next ≤ n) × (start ≤ end) × (end ≤ n)
+CallFrom from n (Call.Read asked next) = (from < next) × (next ≤ n) × AtomIn n asked
 CallFrom from n Call.Malformed = Unit {0}
+
+-- so does a tree's line
+abbrev pub TreeFrom : ℕ → ℕ → TreeLine → Type 0
+TreeFrom from n (TreeLine.Read calls next) = (from < next) × (next ≤ n)
+TreeFrom from n TreeLine.Malformed = Unit {0}
+
+-- so does a list of numbers, the most at most, with its line end
+abbrev pub NumbersFrom : ℕ → ℕ → ℕ → Numbers → Type 0
+NumbersFrom from n most (Numbers.Read count end) = (from < end) × (end < n) × (count ≤ most)
+NumbersFrom from n most Numbers.Malformed = Unit {0}

@@ -2,12 +2,13 @@
 ghost use Prim.Native.Nat.{_<_};
 ghost use Rattle.replay.specs.Script.{Onward};
 use crate::line::LINE;
-use crate::line::put_letter;
-use crate::line::put_number;
 use crate::line::put_part;
 use crate::script::Ran;
-use crate::script::ReaderCase;
-use crate::script::read_reader_case;
+use crate::script::TextCase;
+use crate::script::read_text_case;
+use lines::put_item;
+use lines::put_letter;
+use lines::put_number;
 use sise_parser::Answer;
 use sise_parser::Finished;
 use sise_parser::ParseError;
@@ -15,17 +16,6 @@ use sise_parser::ParsedItem;
 use sise_parser::Phase;
 use sise_parser::Reader;
 use sise_parser::atom_bytes;
-
-fn put_item(out: &mut [u8], at: usize, item: ParsedItem) -> usize {
-    match item {
-        ParsedItem::ListStart { pos } => put_letter(out, at, b'L', pos),
-        ParsedItem::Atom { pos, len } => {
-            let at = put_letter(out, at, b'A', pos);
-            put_number(out, at, len)
-        }
-        ParsedItem::ListEnd { pos } => put_letter(out, at, b'E', pos),
-    }
-}
 
 fn put_error(out: &mut [u8], at: usize, error: ParseError) -> usize {
     let at = put_letter(out, at, b'!', error.number() as usize);
@@ -48,7 +38,7 @@ fn phase_number(phase: Phase) -> usize {
     }
 }
 
-fn put_record(out: &mut [u8], at: usize, reader: Reader) -> usize {
+pub(crate) fn put_reader(out: &mut [u8], at: usize, reader: Reader) -> usize {
     let phase = reader.phase;
     let at = lines::put_bytes(out, at, b" |");
     let at = put_number(out, at, reader.position);
@@ -71,7 +61,7 @@ fn put_atom_of(out: &mut [u8], at: usize, text: &[u8], answer: Answer) -> usize 
 fn put_call(out: &mut [u8], at: usize, text: &[u8], reader: Reader, answer: Answer) -> usize {
     let at = lines::make_room(out, at, LINE);
     let at = put_answer(out, at, answer);
-    let at = put_record(out, at, reader);
+    let at = put_reader(out, at, reader);
     let at = put_atom_of(out, at, text, answer);
     lines::put_byte(out, at, b'\n')
 }
@@ -110,20 +100,20 @@ fn put_case(out: &mut [u8], from: usize, text: &[u8], calls: usize, finish: bool
 pub(crate) fn run(out: &mut [u8], at: usize, script: &[u8], from: usize) -> Ran
     ensures { λ r. ⌜ Onward from r ⌝ }
 {
-    match read_reader_case(script, from) {
-        ReaderCase::Read {
+    match read_text_case(script, from, 1) {
+        TextCase::Read {
             start,
             len,
             calls,
-            finish,
+            last,
         } => {
             let end = start + len;
-            let place = put_case(out, at, &script[start..end], calls, finish);
+            let place = put_case(out, at, &script[start..end], calls, last == 1);
             Ran::Case {
                 place,
                 next: end + 1,
             }
         }
-        ReaderCase::Malformed => Ran::Malformed { place: at },
+        TextCase::Malformed => Ran::Malformed { place: at },
     }
 }

@@ -2,6 +2,9 @@
 ghost use lib.ListN.{length};
 ghost use Rattle.replay.specs.Script.{NumberFrom, TextFrom, StyleFrom, CallFrom};
 
+// The number that stands for the largest of 64 bits.
+const LARGEST: usize = 999999999;
+
 // A case that was run, with the output's place after its answers and the next case's place in the script; or one that cannot be run to
 // its end.
 pub enum Ran {
@@ -15,18 +18,18 @@ pub enum Number {
     Malformed,
 }
 
-// The fields of a reader's case: where its text begins, the text's length, the number of calls, and whether finish follows.
-pub enum ReaderCase {
+// The fields of a case that begins with a text: where the text begins, its length, the number of next_item calls, and the last number of the line.
+pub enum TextCase {
     Read {
         start: usize,
         len: usize,
         calls: usize,
-        finish: bool,
+        last: usize,
     },
     Malformed,
 }
 
-// The fields of a writer's case: the buffer's length, where the line break begins, its length and that of the indentation after it, and the number of
+// The fields of a writer's line: the buffer's length, where the line break begins, its length and that of the indentation after it, and the number of
 // calls.
 pub enum WriterCase {
     Read {
@@ -39,16 +42,27 @@ pub enum WriterCase {
     Malformed,
 }
 
-// A writer's call: its letter, its threshold or wish, where an atom begins and ends, and the next call's place.
+// What a writer's call asks for: its letter, its threshold or wish, and where an atom begins and ends.
+pub struct Asked {
+    pub letter: u8,
+    pub number: usize,
+    pub start: usize,
+    pub end: usize,
+}
+
+// A writer's call, and the next one's place.
 pub enum Call {
-    Read {
-        letter: u8,
-        number: usize,
-        start: usize,
-        end: usize,
-        next: usize,
-    },
+    Read(Asked, usize),
     Malformed,
+}
+
+// The number of 64 bits that a number of the script stands for.
+pub(crate) fn meant(number: usize) -> u64 {
+    if number == LARGEST {
+        18446744073709551615
+    } else {
+        number as u64
+    }
 }
 
 // 10 for a byte that is no digit.
@@ -60,7 +74,7 @@ fn digit_value(byte: u8) -> usize {
 }
 
 // The number that begins at `from` and ends before the byte `end`. One of 1,000,000,000 or more is malformed, so that no sum wraps.
-fn read_number(script: &[u8], from: usize, end: u8) -> Number
+pub(crate) fn read_number(script: &[u8], from: usize, end: u8) -> Number
     ensures { λ r. ⌜ NumberFrom from (length (now (script .entry))) r ⌝ }
 {
     let mut value: usize = 0;
@@ -79,35 +93,8 @@ fn read_number(script: &[u8], from: usize, end: u8) -> Number
     Number::Malformed
 }
 
-// The reader's case whose letter stands before `from`: its text and the line end after it lie in the script.
-pub(crate) fn read_reader_case(script: &[u8], from: usize) -> ReaderCase
-    ensures { λ r. ⌜ TextFrom from (length (now (script .entry))) r ⌝ }
-{
-    if script.len() <= from || script[from] != b' ' {
-        return ReaderCase::Malformed;
-    }
-    let Number::Read(len, at) = read_number(script, from + 1, b' ') else {
-        return ReaderCase::Malformed;
-    };
-    let Number::Read(calls, at) = read_number(script, at, b' ') else {
-        return ReaderCase::Malformed;
-    };
-    let Number::Read(finish, start) = read_number(script, at, b'\n') else {
-        return ReaderCase::Malformed;
-    };
-    if 1 < finish || script.len() - start <= len || script[start + len] != b'\n' {
-        return ReaderCase::Malformed;
-    }
-    ReaderCase::Read {
-        start,
-        len,
-        calls,
-        finish: finish == 1,
-    }
-}
-
 // A space and a number after it.
-fn read_field(script: &[u8], from: usize, end: u8) -> Number
+pub(crate) fn read_field(script: &[u8], from: usize, end: u8) -> Number
     ensures { λ r. ⌜ NumberFrom from (length (now (script .entry))) r ⌝ }
 {
     if script.len() <= from || script[from] != b' ' {
@@ -116,7 +103,31 @@ fn read_field(script: &[u8], from: usize, end: u8) -> Number
     read_number(script, from + 1, end)
 }
 
-// The writer's case whose letter stands before `from`: its style and the line end after it lie in the script.
+// The case whose letter stands before `from`, with a last number of `most` at most: its text and the line end after it lie in the script.
+pub(crate) fn read_text_case(script: &[u8], from: usize, most: usize) -> TextCase
+    ensures { λ r. ⌜ TextFrom from (length (now (script .entry))) most r ⌝ }
+{
+    let Number::Read(len, at) = read_field(script, from, b' ') else {
+        return TextCase::Malformed;
+    };
+    let Number::Read(calls, at) = read_number(script, at, b' ') else {
+        return TextCase::Malformed;
+    };
+    let Number::Read(last, start) = read_number(script, at, b'\n') else {
+        return TextCase::Malformed;
+    };
+    if most < last || script.len() - start <= len || script[start + len] != b'\n' {
+        return TextCase::Malformed;
+    }
+    TextCase::Read {
+        start,
+        len,
+        calls,
+        last,
+    }
+}
+
+// The writer's line whose letter stands before `from`: its style and the line end after it lie in the script.
 pub(crate) fn read_writer_case(script: &[u8], from: usize) -> WriterCase
     ensures { λ r. ⌜ StyleFrom from (length (now (script .entry))) r ⌝ }
 {
@@ -161,29 +172,33 @@ fn read_atom_call(script: &[u8], from: usize) -> Call
     if script.len() - start <= len || script[start + len] != b'\n' {
         return Call::Malformed;
     }
-    Call::Read {
+    let end = start + len;
+    let asked = Asked {
         letter: b'A',
         number,
         start,
-        end: start + len,
-        next: start + len + 1,
-    }
+        end,
+    };
+    Call::Read(asked, end + 1)
 }
 
-// Another call of one number, whose letter stands before `from`.
-fn read_short_call(script: &[u8], from: usize, letter: u8) -> Call
+// Another call, of one number, `most` at most, whose letter stands before `from`.
+fn read_short_call(script: &[u8], from: usize, letter: u8, most: usize) -> Call
     ensures { λ r. ⌜ CallFrom from (length (now (script .entry))) r ⌝ }
 {
     let Number::Read(number, next) = read_field(script, from, b'\n') else {
         return Call::Malformed;
     };
-    Call::Read {
+    if most < number {
+        return Call::Malformed;
+    }
+    let asked = Asked {
         letter,
         number,
         start: next,
         end: next,
-        next,
-    }
+    };
+    Call::Read(asked, next)
 }
 
 // The call that begins at `from`.
@@ -196,9 +211,9 @@ pub(crate) fn read_call(script: &[u8], from: usize) -> Call
     let letter = script[from];
     match letter {
         b'A' => read_atom_call(script, from + 1),
-        b'(' => read_short_call(script, from + 1, letter),
-        b')' => read_short_call(script, from + 1, letter),
-        b'F' => read_short_call(script, from + 1, letter),
+        b'(' => read_short_call(script, from + 1, letter, LARGEST),
+        b')' => read_short_call(script, from + 1, letter, 0),
+        b'F' => read_short_call(script, from + 1, letter, 1),
         _ => Call::Malformed,
     }
 }

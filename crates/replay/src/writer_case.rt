@@ -2,44 +2,31 @@
 ghost use mathlib.Core.Path.{_≡_};
 ghost use Prim.Native.Nat.{_<_};
 ghost use lib.ListN.{length};
-ghost use Rattle.replay.specs.Script.{Onward};
+ghost use Rattle.replay.specs.Script.{Onward, AtomIn};
 use crate::line::LINE;
-use crate::line::put_letter;
-use crate::line::put_number;
 use crate::line::put_part;
+use crate::script::Asked;
 use crate::script::Call;
 use crate::script::Ran;
 use crate::script::WriterCase;
+use crate::script::meant;
 use crate::script::read_call;
 use crate::script::read_writer_case;
+use lines::put_letter;
+use lines::put_number;
 use sise_serializer::Phase;
 use sise_serializer::Put;
 use sise_serializer::Serializer;
 use sise_serializer::Wrote;
 
 // No line of a call is longer: it has a digit for each of up to 200 open lists.
-const CALL_LINE: usize = 400;
-
-// The threshold that a number in the script stands for.
-fn threshold(number: usize) -> u64 {
-    if number == 999999999 {
-        18446744073709551615
-    } else {
-        number as u64
-    }
-}
+pub(crate) const CALL_LINE: usize = 400;
 
 fn put_answer(out: &mut [u8], at: usize, answer: Put) -> usize {
-    match answer {
-        Put::At(offset) => put_letter(out, at, b'@', offset),
-        Put::UnsoundRecord => put_letter(out, at, b'!', 11),
-        Put::InvalidAtom => put_letter(out, at, b'!', 17),
-        Put::NoListToEnd => put_letter(out, at, b'!', 18),
-        Put::WritingFinished => put_letter(out, at, b'!', 19),
-        Put::WritingNotFinished => put_letter(out, at, b'!', 20),
-        Put::TooDeep => put_letter(out, at, b'!', 21),
-        Put::NoRoom => put_letter(out, at, b'!', 22),
+    if let Put::At(offset) = answer {
+        return put_letter(out, at, b'@', offset);
     }
+    put_letter(out, at, b'!', answer.number() as usize)
 }
 
 fn phase_number(phase: Phase) -> usize {
@@ -85,7 +72,7 @@ fn put_state(out: &mut [u8], at: usize, serializer: Serializer) -> usize {
     lines::put_byte(out, at, bit(serializer.list_beginning))
 }
 
-fn put_record(out: &mut [u8], at: usize, serializer: Serializer) -> usize {
+pub(crate) fn put_serializer(out: &mut [u8], at: usize, serializer: Serializer) -> usize {
     let flags = serializer.line_broken;
     let at = lines::put_bytes(out, at, b" |");
     let at = put_state(out, at, serializer);
@@ -98,7 +85,7 @@ fn put_record(out: &mut [u8], at: usize, serializer: Serializer) -> usize {
 fn put_call(out: &mut [u8], at: usize, serializer: Serializer, answer: Put) -> usize {
     let at = lines::make_room(out, at, CALL_LINE);
     let at = put_answer(out, at, answer);
-    let at = put_record(out, at, serializer);
+    let at = put_serializer(out, at, serializer);
     lines::put_byte(out, at, b'\n')
 }
 
@@ -110,7 +97,7 @@ fn put_text(out: &mut [u8], at: usize, text: &[u8]) -> usize {
 }
 
 // The line of what stands in the buffer up to the position, which no call moves past the buffer's end.
-fn put_written(out: &mut [u8], at: usize, buf: &[u8], position: usize) -> usize {
+pub(crate) fn put_written(out: &mut [u8], at: usize, buf: &[u8], position: usize) -> usize {
     if buf.len() < position {
         return at;
     }
@@ -122,13 +109,19 @@ fn make_call(
     line_break: &[u8],
     indentation: &[u8],
     buf: &mut [u8],
-    letter: u8,
-    atom: &[u8],
-    number: usize,
-) -> Wrote {
+    script: &[u8],
+    asked: Asked,
+) -> Wrote
+    requires { ⌜ AtomIn (length (now script)) asked ⌝ }
+{
+    let letter = asked.letter;
+    let number = asked.number;
+    let start = asked.start;
+    let end = asked.end;
+    let atom = &script[start..end];
     match letter {
-        b'A' => serializer.put_atom(line_break, indentation, buf, atom, threshold(number)),
-        b'(' => serializer.begin_list(line_break, indentation, buf, threshold(number)),
+        b'A' => serializer.put_atom(line_break, indentation, buf, atom, meant(number)),
+        b'(' => serializer.begin_list(line_break, indentation, buf, meant(number)),
         b')' => serializer.end_list(line_break, indentation, buf),
         _ => serializer.finish(line_break, indentation, buf, number == 1),
     }
@@ -155,25 +148,10 @@ fn put_case(
     let mut left = calls;
     while 0 < left {
         left -= 1;
-        let Call::Read {
-            letter,
-            number,
-            start,
-            end,
-            next,
-        } = read_call(script, from)
-        else {
+        let Call::Read(asked, next) = read_call(script, from) else {
             return Ran::Malformed { place: at };
         };
-        let wrote = make_call(
-            serializer,
-            line_break,
-            indentation,
-            buf,
-            letter,
-            &script[start..end],
-            number,
-        );
+        let wrote = make_call(serializer, line_break, indentation, buf, script, asked);
         serializer = wrote.serializer;
         let answer = wrote.answer;
         at = put_call(out, at, serializer, answer);
@@ -186,7 +164,7 @@ fn put_case(
 }
 
 // The buffer that a case's calls write into a part of.
-fn memory() -> [u8; 4096]
+pub(crate) fn memory() -> [u8; 4096]
     ensures { λ r. ⌜ 4096 ≡ length r ⌝ }
 {
     [170; 4096]

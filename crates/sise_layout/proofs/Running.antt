@@ -119,7 +119,7 @@ pasted-cons l k x xs h =
     ∙ ap (λ (m : ℕ). take k l ++ (x ∷ xs) ++ drop m l) n)
 
 -- zero is none of some numbers from one on
-no-zero : (k : ℕ) (l : List ℕ) → OneOf (suc k ∷ map suc l) 0 → ⊥
+pub no-zero : (k : ℕ) (l : List ℕ) → OneOf (suc k ∷ map suc l) 0 → ⊥
 no-zero k [] e = omega arith
 no-zero k (j ∷ l) e = ⊎-elim (λ (z : 0 ≡ suc k). omega arith) (no-zero j l) e
 

@@ -1,8 +1,8 @@
 -- Whole lists of the writer's calls (document 01, "serializer.rs: the writer": "Demand 3 speaks of lists of the calls ...").
 -- Assumes nothing.
-use Prim.Native.Nat.{ℕ, _+_, _<_}
+use Prim.Native.Nat.{ℕ, _+_, _-_, _^_, _<_}
 use mathlib.Core.Path.{_≡_}
-use mathlib.Core.Bool.{Bool, true, _&&_, not}
+use mathlib.Core.Bool.{Bool, true, false, _&&_, not}
 use mathlib.Core.List.{List, [], _∷_, _++_, map}
 use lib.Dec.{eqb}
 use lib.ListN.{length, take}
@@ -20,12 +20,20 @@ pub data Call : Type 0 where
   -- whether a final break is wished
   finishCall : Bool → Call
 
+-- a threshold "of 64 unsigned bits (largest: all ones)"
+abbrev pub largest : ℕ
+largest = 2 ^ 64 - 1
+
 -- one call with a style and a buffer of room bytes
 unfoldable pub step : Style → ℕ → Serializer → Call → Written
 step s room w (putAtomCall a t) = putAtom s room w a t
 step s room w (beginListCall t) = beginList s room w t
 step s room w endListCall = endList s room w
 step s room w (finishCall wished) = finishWriting s room w wished
+
+abbrev pub isAccepted : Answer → Bool
+isAccepted (accepted o) = true
+isAccepted (refused n) = false
 
 -- an item: "the item atom with its bytes", "a list start", "a list end"
 pub data Item : Type 0 where

@@ -1,6 +1,6 @@
 -- Document 01's worked writing with both thresholds, by computation: text, offsets and counts; so the premises of demand 3 are met.
 -- Assumes nothing.
-use Prim.Native.Nat.{ℕ, _^_, _-_}
+use Prim.Native.Nat.{ℕ}
 use mathlib.Core.Path.{_≡_, refl}
 use mathlib.Core.Bool.{true}
 use mathlib.Core.List.{List, [], _∷_, map}
@@ -14,10 +14,7 @@ use Rattle.sise_serializer.specs.Examples.{house}
 use Rattle.sise_serializer.specs.Serializer.{freshSerializer, isSound, place, firstAtom, firstList, laid, innerAs, inner, phaseAfter, flagsAfter, closeAs, close, last, putIn, putAtom, beginIn, beginList, endIn, endList, finishIn, finishWriting}
 use Rattle.sise_serializer.specs.declared.serializer.Phase.{Phase}
 use Rattle.sise_serializer.specs.declared.serializer.Phase.the-variants.{Done}
-use Rattle.sise_layout.specs.Calls.{Call, putAtomCall, beginListCall, endListCall, finishCall, Item, atom, listStart, listEnd, Placed, itemsOf, step, itemAt, Run, run, writing, FinishAccepted, here, later, Finishes, textOf, Blank}
-
-abbrev largest : ℕ
-largest = 2 ^ 64 - 1
+use Rattle.sise_layout.specs.Calls.{largest, Call, putAtomCall, beginListCall, endListCall, finishCall, Item, atom, listStart, listEnd, Placed, itemsOf, step, itemAt, Run, run, writing, FinishAccepted, here, later, Finishes, textOf, Blank}
 
 -- "`(`, `z` at largest, `(` at 0, `1` at largest, `22` at 4, two `)`, finish with break", with t for 4; a refused call among them
 unfoldable pub worked : ℕ → List Call

@@ -1,9 +1,11 @@
 // A whole list of the writer's calls, as numbers: four words a call, and one word for each answer.
 use sise_parser::atom_bytes;
+use sise_serializer::Flags;
 use sise_serializer::Progress;
 use sise_serializer::Put;
 use sise_serializer::Serializer;
 use sise_serializer::Step;
+use sise_serializer::Wrote;
 use sise_serializer::begin_step;
 use sise_serializer::end_step;
 use sise_serializer::finish_step;
@@ -13,7 +15,7 @@ ghost use mathlib.Core.Path.{_≡_};
 ghost use mathlib.Core.Bool.{true};
 ghost use Prim.Native.Nat.{_+_, _≤_};
 ghost use lib.ListN.{length};
-ghost use Rattle.sise_serializer.specs.Serializer.{style, answerAs};
+ghost use Rattle.sise_serializer.specs.Serializer.{style, answerAs, Does};
 ghost use Rattle.sise_serializer.specs.Steps.{joined, Steps};
 ghost use Rattle.sise_layout.specs.Calls.{step, writing};
 ghost use Rattle.sise_layout.specs.Words.{callAt, hasCall, callsOf, answerWord, Runs};
@@ -48,7 +50,7 @@ fn has_call(words: &[u64], at: usize) -> bool
 // Runs the call whose four words stand at `at`.
 fn run_call(
     progress: Progress,
-    flags: &mut [bool; 200],
+    flags: &mut Flags,
     words: &[u64],
     at: usize,
     atoms: &[u8],
@@ -65,7 +67,7 @@ fn run_call(
     let threshold = words[at + 3];
     if kind == 0 {
         let atom = atom_bytes(atoms, place as usize, len as usize);
-        put_atom_step(
+        return put_atom_step(
             progress,
             flags,
             line_break,
@@ -74,9 +76,10 @@ fn run_call(
             atom,
             threshold,
             true,
-        )
-    } else if kind == 1 {
-        begin_step(
+        );
+    }
+    if kind == 1 {
+        return begin_step(
             progress,
             flags,
             line_break,
@@ -84,20 +87,20 @@ fn run_call(
             buf,
             threshold,
             true,
-        )
-    } else if kind == 2 {
-        end_step(progress, flags, line_break, indentation, buf, true)
-    } else {
-        finish_step(
-            progress,
-            flags,
-            line_break,
-            indentation,
-            buf,
-            kind != 3,
-            true,
-        )
+        );
     }
+    if kind == 2 {
+        return end_step(progress, flags, line_break, indentation, buf, true);
+    }
+    finish_step(
+        progress,
+        flags,
+        line_break,
+        indentation,
+        buf,
+        kind != 3,
+        true,
+    )
 }
 
 // Runs the calls that the words mean, each with the record that the last one left, and writes the word of each answer at the call's index. Stops at a
@@ -136,5 +139,64 @@ pub fn write_calls(
     Ran {
         serializer: progress.join(flags),
         calls: k,
+    }
+}
+
+// Runs the call whose four words stand at `at`, by the method of its own.
+fn call_method(
+    w: Serializer,
+    words: &[u64],
+    at: usize,
+    atoms: &[u8],
+    line_break: &[u8],
+    indentation: &[u8],
+    buf: &mut [u8],
+) -> Wrote
+    requires { ⌜ at + 4 ≤ length (now words) ⌝ }
+    ensures { λ r. ⌜ Does (step (style (now («line_break» .entry)) (now (indentation .entry))) (length (now (buf .entry))) w (callAt (now (words .entry)) (now (atoms .entry)) at)) w (now (buf .entry)) r (now (buf .exit)) ⌝ }
+{
+    let kind = words[at];
+    let place = words[at + 1];
+    let len = words[at + 2];
+    let threshold = words[at + 3];
+    if kind == 0 {
+        let atom = atom_bytes(atoms, place as usize, len as usize);
+        return w.put_atom(line_break, indentation, buf, atom, threshold);
+    }
+    if kind == 1 {
+        return w.begin_list(line_break, indentation, buf, threshold);
+    }
+    if kind == 2 {
+        return w.end_list(line_break, indentation, buf);
+    }
+    w.finish(line_break, indentation, buf, kind != 3)
+}
+
+// Does what write_calls does, with the whole record handed to each method and back, as a program does that makes the calls one at a time. It shows what
+// that costs.
+pub fn write_calls_singly(
+    words: &[u64],
+    atoms: &[u8],
+    line_break: &[u8],
+    indentation: &[u8],
+    buf: &mut [u8],
+    answers: &mut [u64],
+) -> Ran
+    ensures { λ r. ⌜ Runs (writing (style (now («line_break» .entry)) (now (indentation .entry))) (now (buf .entry)) (callsOf (now (words .entry)) (now (atoms .entry)) (length (now (answers .entry))))) (callsOf (now (words .entry)) (now (atoms .entry)) (length (now (answers .entry)))) (now (answers .entry)) (r .serializer) (r .calls) (now (buf .exit)) (now (answers .exit)) ⌝ }
+{
+    let mut w = Serializer::new();
+    let mut count = 0;
+    let mut next = 0;
+    while count < answers.len() && has_call(words, next) {
+        let wrote = call_method(w, words, next, atoms, line_break, indentation, buf);
+        let said = wrote.answer;
+        answers[count] = put_word(said);
+        w = wrote.serializer;
+        count += 1;
+        next += 4;
+    }
+    Ran {
+        serializer: w,
+        calls: count,
     }
 }

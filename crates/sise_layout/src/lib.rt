@@ -3,3 +3,4 @@ mod calls;
 
 pub use calls::Ran;
 pub use calls::write_calls;
+pub use calls::write_calls_singly;

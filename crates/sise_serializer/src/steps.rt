@@ -1,4 +1,5 @@
-// The writer's calls as steps over a small record. The flags, which are large, are lent beside it. A step with `commit` off does everything but write.
+// The writer's calls as steps over a small record. The flags, which are large, are lent beside it. With `commit` off a step does all but write.
+// Each arm of a `match` returns by itself: what an arm yields would be copied once more.
 use crate::buffer::LIMIT;
 use crate::buffer::Spot;
 use crate::buffer::place;
@@ -153,7 +154,7 @@ fn first_atom(progress: Progress, buf: &mut [u8], atom: &[u8], commit: bool) -> 
 {
     let position = progress.position;
     match place(buf, position, b"", 0, b"", atom, commit) {
-        Spot::At(at, end) => Step {
+        Spot::At(at, end) => return Step {
             progress: Progress {
                 position: end,
                 phase: Phase::Finished,
@@ -166,7 +167,7 @@ fn first_atom(progress: Progress, buf: &mut [u8], atom: &[u8], commit: bool) -> 
             },
             answer: Put::At(at),
         },
-        Spot::NoRoom => refused(progress, Put::NoRoom),
+        Spot::NoRoom => return refused(progress, Put::NoRoom),
     }
 }
 
@@ -177,7 +178,7 @@ fn first_list(progress: Progress, flags: &mut Flags, buf: &mut [u8], commit: boo
     match place(buf, position, b"", 0, b"", b"(", commit) {
         Spot::At(at, end) => {
             flags[0] = false;
-            Step {
+            return Step {
                 progress: Progress {
                     position: end,
                     phase: Phase::Writing,
@@ -189,9 +190,9 @@ fn first_list(progress: Progress, flags: &mut Flags, buf: &mut [u8], commit: boo
                     indents: progress.indents,
                 },
                 answer: Put::At(at),
-            }
+            };
         }
-        Spot::NoRoom => refused(progress, Put::NoRoom),
+        Spot::NoRoom => return refused(progress, Put::NoRoom),
     }
 }
 
@@ -250,7 +251,7 @@ fn on_new_line(
             let line = lists * indentation.len() + token.len();
             let breaks = progress.breaks + 1;
             let indents = progress.indents + lists;
-            Step {
+            return Step {
                 progress: added(
                     lists,
                     flags,
@@ -262,9 +263,9 @@ fn on_new_line(
                     indents,
                 ),
                 answer: Put::At(at),
-            }
+            };
         }
-        Spot::NoRoom => refused(progress, Put::NoRoom),
+        Spot::NoRoom => return refused(progress, Put::NoRoom),
     }
 }
 
@@ -287,7 +288,7 @@ fn in_line(
         Spot::At(at, end) => {
             let line = progress.line_len + lead.len() + token.len();
             let spaces = progress.spaces + lead.len();
-            Step {
+            return Step {
                 progress: added(
                     lists,
                     flags,
@@ -299,9 +300,9 @@ fn in_line(
                     progress.indents,
                 ),
                 answer: Put::At(at),
-            }
+            };
         }
-        Spot::NoRoom => refused(progress, Put::NoRoom),
+        Spot::NoRoom => return refused(progress, Put::NoRoom),
     }
 }
 
@@ -322,7 +323,7 @@ fn inner(
 {
     let line = progress.line_len as u64;
     if break_line_at <= line {
-        on_new_line(
+        return on_new_line(
             progress,
             flags,
             token,
@@ -331,12 +332,12 @@ fn inner(
             indentation,
             buf,
             commit,
-        )
-    } else if progress.list_beginning {
-        in_line(progress, flags, token, is_list, b"", buf, commit)
-    } else {
-        in_line(progress, flags, token, is_list, b" ", buf, commit)
+        );
     }
+    if progress.list_beginning {
+        return in_line(progress, flags, token, is_list, b"", buf, commit);
+    }
+    in_line(progress, flags, token, is_list, b" ", buf, commit)
 }
 
 // ---- the steps
@@ -357,8 +358,8 @@ fn put_sound(
 {
     let phase = progress.phase;
     match phase {
-        Phase::Beginning => first_atom(progress, buf, atom, commit),
-        Phase::Writing => inner(
+        Phase::Beginning => return first_atom(progress, buf, atom, commit),
+        Phase::Writing => return inner(
             progress,
             flags,
             atom,
@@ -369,8 +370,8 @@ fn put_sound(
             break_line_at,
             commit,
         ),
-        Phase::Finished => refused(progress, Put::WritingFinished),
-        Phase::Done => refused(progress, Put::WritingFinished),
+        Phase::Finished => return refused(progress, Put::WritingFinished),
+        Phase::Done => return refused(progress, Put::WritingFinished),
     }
 }
 
@@ -450,12 +451,12 @@ pub fn begin_step(
     }
     let phase = progress.phase;
     match phase {
-        Phase::Beginning => first_list(progress, flags, buf, commit),
+        Phase::Beginning => return first_list(progress, flags, buf, commit),
         Phase::Writing => {
             if DEEPEST <= progress.lists {
                 return refused(progress, Put::TooDeep);
             }
-            inner(
+            return inner(
                 progress,
                 flags,
                 b"(",
@@ -465,10 +466,10 @@ pub fn begin_step(
                 buf,
                 break_line_at,
                 commit,
-            )
+            );
         }
-        Phase::Finished => refused(progress, Put::WritingFinished),
-        Phase::Done => refused(progress, Put::WritingFinished),
+        Phase::Finished => return refused(progress, Put::WritingFinished),
+        Phase::Done => return refused(progress, Put::WritingFinished),
     }
 }
 
@@ -545,18 +546,18 @@ fn close(
                 let line = d * indentation.len() + 1;
                 let breaks = progress.breaks + 1;
                 let indents = progress.indents + d;
-                Step {
+                return Step {
                     progress: closed(progress, flags, true, end, line, breaks, indents),
                     answer: Put::At(at),
-                }
+                };
             }
-            Spot::NoRoom => refused(progress, Put::NoRoom),
+            Spot::NoRoom => return refused(progress, Put::NoRoom),
         }
     } else {
         match place(buf, position, b"", 0, b"", b")", commit) {
             Spot::At(at, end) => {
                 let line = progress.line_len + 1;
-                Step {
+                return Step {
                     progress: closed(
                         progress,
                         flags,
@@ -567,9 +568,9 @@ fn close(
                         progress.indents,
                     ),
                     answer: Put::At(at),
-                }
+                };
             }
-            Spot::NoRoom => refused(progress, Put::NoRoom),
+            Spot::NoRoom => return refused(progress, Put::NoRoom),
         }
     }
 }
@@ -590,10 +591,10 @@ pub fn end_step(
     }
     let phase = progress.phase;
     match phase {
-        Phase::Beginning => refused(progress, Put::NoListToEnd),
-        Phase::Writing => close(progress, flags, line_break, indentation, buf, commit),
-        Phase::Finished => refused(progress, Put::WritingFinished),
-        Phase::Done => refused(progress, Put::WritingFinished),
+        Phase::Beginning => return refused(progress, Put::NoListToEnd),
+        Phase::Writing => return close(progress, flags, line_break, indentation, buf, commit),
+        Phase::Finished => return refused(progress, Put::WritingFinished),
+        Phase::Done => return refused(progress, Put::WritingFinished),
     }
 }
 
@@ -618,7 +619,7 @@ fn last(
     let position = progress.position;
     let times = one_if(insert_line_break);
     match place(buf, position, b"", times, line_break, b"", commit) {
-        Spot::At(at, end) => Step {
+        Spot::At(at, end) => return Step {
             progress: Progress {
                 position: end,
                 phase: Phase::Done,
@@ -631,7 +632,7 @@ fn last(
             },
             answer: Put::At(at),
         },
-        Spot::NoRoom => refused(progress, Put::NoRoom),
+        Spot::NoRoom => return refused(progress, Put::NoRoom),
     }
 }
 
@@ -652,9 +653,9 @@ pub fn finish_step(
     }
     let phase = progress.phase;
     match phase {
-        Phase::Beginning => refused(progress, Put::WritingNotFinished),
-        Phase::Writing => refused(progress, Put::WritingNotFinished),
-        Phase::Finished => last(progress, line_break, buf, insert_line_break, commit),
-        Phase::Done => refused(progress, Put::WritingFinished),
+        Phase::Beginning => return refused(progress, Put::WritingNotFinished),
+        Phase::Writing => return refused(progress, Put::WritingNotFinished),
+        Phase::Finished => return last(progress, line_break, buf, insert_line_break, commit),
+        Phase::Done => return refused(progress, Put::WritingFinished),
     }
 }

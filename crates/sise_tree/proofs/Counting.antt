@@ -1,20 +1,21 @@
 -- The state of the counting loop, and how each item takes it on: the number of open lists stands for the lists themselves.
 -- Assumes nothing.
-use Prim.Native.Nat.{ℕ, _+_, _-_, _≤_, _<_}
+use Prim.Native.Nat.{ℕ, _+_, _-_, _≤_}
 use native.Mathlib.Omega.{arith}
 use mathlib.Core.Path.{_≡_, refl, sym, ap, _∙_}
 use mathlib.Core.List.{List}
-use Rattle.sise_parser.specs.Refusals.{Refusal, refusal, refusalOf}
+use Rattle.sise_parser.specs.Refusals.{Refusal}
 use Rattle.sise_parser.specs.Reader.{item, refused, next, nextItem}
-use Rattle.sise_parser.specs.declared.error.ParseError.{ParseError}
 use Rattle.sise_parser.specs.declared.reader.Reader.{Reader}
 use Rattle.sise_parser.specs.declared.reader.ParsedItem.{ParsedItem}
 use Rattle.sise_parser.specs.declared.reader.ParsedItem.the-variants.{Atom, ListStart, ListEnd}
-use Rattle.sise_tree.specs.Tree.{Node, atom, list, Nodes, empty, size, sizes}
+use Rattle.sise_tree.specs.Tree.{Node, atom, list, empty, size, sizes}
 use Rattle.sise_tree.specs.Answers as answers
-use Rattle.sise_tree.specs.ParseTree.{Frames, top, _▹_, Stage, inside, whole, closes, snoc, attach, close, turn, ReadNode, got, stopped, readStage, readFrom, readNode}
+use Rattle.sise_tree.specs.Answers.{parsedAs}
+use Rattle.sise_tree.specs.ParseTree.{Frames, top, _▹_, Stage, inside, whole, snoc, attach, close, turn, readStage, readNode}
 use Rattle.sise_tree.specs.Filling.{filled, filledIn, DoesCount, counted, readerOf}
-use Rattle.sise_tree.specs.declared.parse.ParsedTree.the-variants.{Nodes as NodesRead, Refused, UnexpectedListEnd}
+use Rattle.sise_tree.specs.declared.parse.ParsedTree.{ParsedTree}
+use Rattle.sise_tree.specs.declared.parse.ParsedTree.the-variants.{Nodes as NodesRead, UnexpectedListEnd}
 use Rattle.sise_tree.proofs.ReadSteps.{took, readOn, read-item, read-refused}
 use Rattle.sise_tree.proofs.FillingLaws.{attach-filled}
 
@@ -28,10 +29,10 @@ opened-le top = omega arith
 opened-le (f ▹ c) = omega (arith, opened-le f)
 
 -- a node is attached inside a list, or is the whole
-attach-in : (f : Frames) (n : Node) → (opened f ≡ 0 → ⊥) → (g : Frames) × (attach f n ≡ inside g) × (opened g ≡ opened f)
+attach-in : {C : Type 0} (f : Frames) (n : Node) → (opened f ≡ 0 → ⊥) → ((g : Frames) → attach f n ≡ inside g → opened g ≡ opened f → C) → C
 unfolding attach opened
-attach-in top n d = absurd (d refl)
-attach-in (f ▹ c) n d = (f ▹ snoc c n, refl, refl)
+attach-in top n d k = absurd (d refl)
+attach-in (f ▹ c) n d k = k (f ▹ snoc c n) refl refl
 
 attach-out : (f : Frames) (n : Node) → opened f ≡ 0 → (attach f n ≡ whole n) × (filled f ≡ 0)
 unfolding attach opened filled
@@ -67,10 +68,12 @@ module _ (text : List ℕ) (r₀ : Reader) where
     pub depth-le : depth ≤ nodes
     depth-le = omega (arith, h .deep, h .many, opened-le f)
 
-    pub refused-ends : {q : Reader} {x : ParseError} → nextItem text r ≡ next q (refused (refusalOf x)) → DoesCount (readNode text r₀) (record { reader = q; answer = Refused x })
-    refused-ends e =
+    pub refused-ends :
+        {q : Reader} {x : Refusal} {a : ParsedTree} → nextItem text r ≡ next q (refused x) → parsedAs a ≡ answers.refused x
+        → DoesCount (readNode text r₀) (record { reader = q; answer = a })
+    refused-ends e d =
         let z = sym (read-refused text r f e) ∙ h .reads in
-        record { reader = ap readerOf z; answer = ap counted z }
+        record { reader = ap readerOf z; answer = d ∙ ap counted z }
 
     pub start-goes : {q : Reader} {p : ℕ} → nextItem text r ≡ next q (item (ListStart p)) → (g : Frames) × Counts g q (depth + 1) (nodes + 1)
     unfolding turn opened filled sizes
@@ -84,7 +87,7 @@ module _ (text : List ℕ) (r₀ : Reader) where
       pub atom-goes : (depth ≡ 0 → ⊥) → (g : Frames) × Counts g q depth (nodes + 1)
       unfolding turn size filledIn
       atom-goes z =
-          let (g, t, o) = attach-in f (atom p n) (λ d. z (h .deep ∙ d)) in
+          attach-in f (atom p n) (λ d. z (h .deep ∙ d)) λ g t o.
           let m : filled g ≡ filled f + 1 = ap filledIn (sym t) ∙ attach-filled f (atom p n) in
           (g, goes h e t (h .deep ∙ sym o) (omega (arith, h .many)) (omega arith))
 
@@ -110,6 +113,6 @@ module _ (text : List ℕ) (r₀ : Reader) where
   list-goes {f = top} h e z o = absurd (z (h .deep))
   list-goes {f = f ▹ c} {depth = depth} h e z o =
       let d : depth - 1 ≡ opened f = omega (arith, h .deep) in
-      let (g, t, q) = attach-in f (list c) (λ y. o (d ∙ y)) in
+      attach-in f (list c) (λ y. o (d ∙ y)) λ g t q.
       let m : filled g ≡ filled f + (1 + sizes c) = ap filledIn (sym t) ∙ attach-filled f (list c) in
       (g, goes h e t (d ∙ sym q) (h .many ∙ sym m) (omega arith))

@@ -1,18 +1,18 @@
 -- Reading item after item with lists open is recursive descent: readNode gives a node exactly if a descent reads it.
 -- Assumes nothing.
-use Prim.Native.Nat.{ℕ, zero, suc}
-use mathlib.Core.Path.{_≡_, refl, sym, ap, ap₂, _∙_, subst}
-use mathlib.Core.Bool.{Bool, true, false, false≢true}
+use Prim.Native.Nat.{ℕ, suc}
+use mathlib.Core.Path.{_≡_, refl, sym, ap, _∙_, subst}
 use mathlib.Core.List.{List}
 use lib.ListN.{length}
-use Rattle.sise_parser.specs.Reader.{Answer, item, refused, next, nextItem}
+use Rattle.sise_parser.specs.Reader.{item, next, nextItem}
 use Rattle.sise_parser.specs.declared.reader.Reader.{Reader}
 use Rattle.sise_parser.specs.declared.reader.ParsedItem.{ParsedItem}
 use Rattle.sise_parser.specs.declared.reader.ParsedItem.the-variants.{Atom, ListStart, ListEnd}
-use Rattle.sise_tree.specs.Tree.{Node, atom, list, Nodes, empty, _then_}
-use Rattle.sise_tree.specs.ParseTree.{Frames, top, _▹_, Stage, inside, whole, closes, snoc, attach, close, turn, ReadNode, got, stopped, readStage, readAnswer, readFrom, readNode}
+use Rattle.sise_tree.specs.Tree.{Node, Nodes, empty, _then_}
+use Rattle.sise_tree.specs.ParseTree.{Frames, top, _▹_, Stage, inside, whole, closes, snoc, attach, close, turn, got, readStage, readNode}
+use Rattle.sise_tree.specs.Filling.{readerOf}
 use Rattle.sise_tree.specs.Descent.{ReadsNode, one, many, ReadsNodes, none, more}
-use Rattle.sise_tree.proofs.ReadSteps.{readOn, read-item, Leads, leads}
+use Rattle.sise_tree.proofs.ReadSteps.{nodeIn, readOn, read-item, Leads, leads}
 
 -- these children, and then those
 unfoldable join : Nodes → Nodes → Nodes
@@ -46,6 +46,10 @@ module _ (text : List ℕ) where
   pub descent-read : {r q : Reader} {n : Node} → ReadsNode text r n q → readNode text r ≡ got n q
   unfolding readNode attach readStage
   descent-read d = node-read d top
+
+  -- so a descent reads one node only
+  pub descent-once : {r q p : Reader} {n m : Node} → ReadsNode text r n q → ReadsNode text r m p → (n ≡ m) × (q ≡ p)
+  descent-once {n = n} d e = let z = sym (descent-read d) ∙ descent-read e in (ap (nodeIn n) z, ap readerOf z)
 
   -- the other way: the open lists are those of a descent that is on its way
   snoc-reads : {r s q : Reader} {c : Nodes} {n : Node} → ReadsNodes text r c s → ReadsNode text s n q → ReadsNodes text r (snoc c n) q

@@ -1,6 +1,6 @@
 -- The filling loop comes to the node that was counted: each item fits, since the words so far are fewer than the node's.
 -- Assumes nothing.
-use Prim.Native.Nat.{ℕ, suc, _+_, _*_, _/_, _^_, _≤_, _<_}
+use Prim.Native.Nat.{ℕ, suc, _*_, _≤_}
 use native.Mathlib.Omega.{arith}
 use mathlib.Core.Path.{_≡_, refl, sym, ap, _∙_, subst}
 use mathlib.Core.List.{List, _++_}
@@ -10,9 +10,9 @@ use Rattle.sise_parser.specs.Reader.{item, refused, next, nextItem}
 use Rattle.sise_parser.specs.declared.reader.Reader.{Reader}
 use Rattle.sise_parser.specs.declared.reader.ParsedItem.{ParsedItem}
 use Rattle.sise_parser.specs.declared.reader.ParsedItem.the-variants.{Atom, ListStart, ListEnd}
-use Rattle.sise_tree.specs.Tree.{Node, atom, list, Nodes, empty, size, sizes, table}
-use Rattle.sise_tree.specs.ParseTree.{longest, Frames, top, _▹_, Stage, inside, whole, closes, attach, close, turn, ReadNode, got, stopped, readStage, readFrom, readNode, filledWith}
-use Rattle.sise_tree.specs.Filling.{filled, link, render, filledIn, linkIn, renderIn, Shows, SmallItem, Fits, Fillable, CanFill, DoesFill}
+use Rattle.sise_tree.specs.Tree.{Node, atom, list, size}
+use Rattle.sise_tree.specs.ParseTree.{Frames, top, _▹_, Stage, inside, whole, closes, attach, close, turn, ReadNode, got, readStage, readNode, filledWith}
+use Rattle.sise_tree.specs.Filling.{filled, link, render, filledIn, linkIn, renderIn, Shows, EndsAt, Fits, Fillable, DoesFill}
 use Rattle.sise_tree.specs.declared.parse.Mark.{Mark}
 use Rattle.sise_tree.proofs.ReadSteps.{Took, took, readOn, read-item, read-refused, nodeIn, stopped-got, stage-got, Leads, leads}
 use Rattle.sise_tree.proofs.ParseLaws.{at-most-bytes}
@@ -83,19 +83,20 @@ module _ (text w₀ : List ℕ) (r₀ : Reader) where
           (λ g t more. let z = ap filledIn t in omega (arith, leads text (grows text) (suc (length text)) g q more))
           (λ t z. let z = ap filledIn t in omega arith)
 
-      pub item-fits : Fits (length words) f i
+      pub item-fits : Fits (length words) f i (q .position)
       item-fits =
           record {
             due = due;
             room = omega (arith, small-size, k .room, h .same);
-            item = small-item i (took text r e);
             small = omega (arith, small-size, k .short, at-most-bytes text r₀ (k .reads));
+            ends = ends-at i (took text r e);
+            short = omega (arith, took text r e .within, k .short);
           }
         where
-          small-item : (j : ParsedItem) → Took text r q j → SmallItem j
-          small-item (Atom p n) t = omega (arith, t .leaves .0, t .within, k .short)
-          small-item (ListStart p) t = tt
-          small-item (ListEnd p) t = tt
+          ends-at : (j : ParsedItem) → Took text r q j → EndsAt (q .position) j
+          ends-at (Atom p n) t = t .leaves .0
+          ends-at (ListStart p) t = tt
+          ends-at (ListEnd p) t = tt
 
       module _ {now : List ℕ} {m′ : Mark} (s : Shows w₀ (turn f i) now m′) where
         pub fill-ends : m′ .parent ≡ 0 → DoesFill text r₀ w₀ now

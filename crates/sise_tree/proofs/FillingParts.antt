@@ -1,14 +1,14 @@
 -- What the parts of the filling do to the words is what their contracts say.
 -- Assumes nothing.
-use Prim.Native.Nat.{ℕ, _+_, _-_, _*_, _/_, _^_, _≤_, _<_}
+use Prim.Native.Nat.{ℕ, _+_, _-_, _*_, _^_, _≤_, _<_}
 use native.Mathlib.Omega.{arith}
-use mathlib.Core.Path.{_≡_, ap, _∙_}
-use mathlib.Core.List.{List, _∷_, _++_}
-use lib.ListN.{length, getD, drop, set, length-append}
-use Rattle.sise_tree.specs.Tree.{Node, atom, list, Nodes, size, sizes, children, table}
+use mathlib.Core.Path.{_≡_, ap}
+use mathlib.Core.List.{List, _++_}
+use lib.ListN.{length, getD, set, length-append}
+use Rattle.sise_tree.specs.Tree.{list, Nodes, sizes, children, table}
 use Rattle.sise_tree.specs.ParseTree.{Frames, top, _▹_, attach}
 use Rattle.sise_tree.specs.Filling.{filled, link, render, renderIn, Attachable, CanAttach, Attaches, Closable, CanClose, Closes}
-use Rattle.sise_tree.proofs.FillingLaws.{children-le, length-render, put-set, count-read, count-set, link-read, close-set}
+use Rattle.sise_tree.proofs.FillingLaws.{children-le, length-render, count-read, count-set, link-read, close-set}
 
 -- a child is counted
 pub attaches-none : (words : List ℕ) {parent : ℕ} → parent ≡ 0 → Attaches words parent words

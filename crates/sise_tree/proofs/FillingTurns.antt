@@ -1,6 +1,6 @@
 -- The state of the filling, and how each item takes it on.
 -- Assumes nothing.
-use Prim.Native.Nat.{ℕ, _+_, _*_, _/_, _^_, _≤_, _<_}
+use Prim.Native.Nat.{ℕ, _+_, _-_, _*_, _/_, _^_, _≤_, _<_}
 use native.Mathlib.Omega.{arith}
 use mathlib.Core.Path.{_≡_, sym, ap, _∙_, subst}
 use mathlib.Core.List.{List, [], _∷_, _++_, append-assoc}
@@ -8,9 +8,9 @@ use lib.ListN.{length, drop}
 use lib.Seq.{drop-drop}
 use Rattle.sise_parser.specs.declared.reader.ParsedItem.{ParsedItem}
 use Rattle.sise_parser.specs.declared.reader.ParsedItem.the-variants.{Atom, ListStart, ListEnd}
-use Rattle.sise_tree.specs.Tree.{atom, list, Nodes, empty, size, sizes, children, table, tables}
-use Rattle.sise_tree.specs.ParseTree.{Frames, top, _▹_, Stage, inside, whole, closes, attach, close, turn}
-use Rattle.sise_tree.specs.Filling.{filled, link, render, filledIn, linkIn, renderIn, putAt, Attachable, CanAttach, Attaches, Closable, CanClose, Closes, Shows, SmallItem, Fits}
+use Rattle.sise_tree.specs.Tree.{atom, list, empty, size, sizes, children, table, tables}
+use Rattle.sise_tree.specs.ParseTree.{Frames, top, _▹_, Stage, inside, attach, close, turn}
+use Rattle.sise_tree.specs.Filling.{filled, link, render, filledIn, linkIn, renderIn, putAt, Attachable, Attaches, CanClose, Closes, Shows, EndsAt, Fits}
 use Rattle.sise_tree.specs.declared.parse.Mark.{Mark}
 use Rattle.sise_tree.proofs.FillingLaws.{put-set, attach-filled, attach-link}
 
@@ -25,9 +25,9 @@ module _ {w₀ words : List ℕ} {f : Frames} {m : Mark} (h : Shows w₀ (inside
   put-shown k a b s e = rw (e, h .nexts, h .shown) (put-set f k a b s (drop (4 * filled f) w₀))
 
   -- an atom
-  module _ {i : ParsedItem} {p n : ℕ} (t : i ≡ Atom p n) (u : Fits (length words) f i) where
-    pub atom-small : p + n < 2 ^ 32
-    atom-small = subst SmallItem t (u .item)
+  module _ {i : ParsedItem} {p n end : ℕ} (t : i ≡ Atom p n) (u : Fits (length words) f i end) where
+    pub atom-ends : (p ≤ end) × (end < 2 ^ 32) × (end - p ≡ n)
+    atom-ends = let e : p + n ≡ end = subst (EndsAt end) t (u .ends) in (omega arith, u .short, omega arith)
 
     atom-turn : turn f i ≡ attach f (atom p n)
     unfolding turn
@@ -41,10 +41,10 @@ module _ {w₀ words : List ℕ} {f : Frames} {m : Mark} (h : Shows w₀ (inside
     unfolding filledIn
     atom-room = (omega (arith, h .nexts, atom-grows, u .room), omega (arith, h .nexts, atom-grows, u .small))
 
-    module _ {k : ℕ} (e : k ≡ m .next) {put : List ℕ} (w : put ≡ putAt words k 1 p n 1) where
+    module _ {k : ℕ} (e : k ≡ m .next) {put : List ℕ} (w : put ≡ putAt words k 1 p (end - p) 1) where
       pub atom-attachable : Attachable put (m .parent) f (atom p n) (drop 4 (drop (4 * filled f) w₀))
       unfolding linkIn table
-      atom-attachable = record { shown = w ∙ put-shown 1 p n 1 e; linked = h .linked; small = omega (arith, atom-grows, u .small) }
+      atom-attachable = record { shown = w ∙ ap (λ (l : ℕ). putAt words k 1 p l 1) (atom-ends .2) ∙ put-shown 1 p n 1 e; linked = h .linked; small = omega (arith, atom-grows, u .small) }
 
       pub atom-turns : {now : List ℕ} → Attaches put (m .parent) now → Shows w₀ (turn f i) now (record { next = m .next + 1; parent = m .parent })
       unfolding filledIn linkIn
@@ -59,7 +59,7 @@ module _ {w₀ words : List ℕ} {f : Frames} {m : Mark} (h : Shows w₀ (inside
           }
 
   -- a list's start
-  module _ {i : ParsedItem} {p : ℕ} (t : i ≡ ListStart p) (u : Fits (length words) f i) where
+  module _ {i : ParsedItem} {p end : ℕ} (t : i ≡ ListStart p) (u : Fits (length words) f i end) where
     start-turn : turn f i ≡ inside (f ▹ empty)
     unfolding turn
     start-turn = ap (turn f) t
@@ -89,14 +89,14 @@ module _ {w₀ words : List ℕ} {f : Frames} {m : Mark} (h : Shows w₀ (inside
         })
 
 -- a list's end
-module _ {w₀ words : List ℕ} {m : Mark} {i : ParsedItem} {p : ℕ} (t : i ≡ ListEnd p) where
-  pub end-closable : (f : Frames) → Shows w₀ (inside f) words m → Fits (length words) f i → CanClose words (m .next) (m .parent)
+module _ {w₀ words : List ℕ} {m : Mark} {i : ParsedItem} {p end : ℕ} (t : i ≡ ListEnd p) where
+  pub end-closable : (f : Frames) → Shows w₀ (inside f) words m → Fits (length words) f i end → CanClose words (m .next) (m .parent)
   unfolding turn close filledIn linkIn renderIn
   end-closable top h u = absurd (u .due p (ap (turn top) t))
   end-closable (f ▹ c) h u = (f, c, drop (4 * filled (f ▹ c)) w₀, record { shown = h .shown; nexts = h .nexts; linked = h .linked })
 
   pub end-turns :
-      (f : Frames) → Shows w₀ (inside f) words m → Fits (length words) f i → {r : ℕ} {now : List ℕ}
+      (f : Frames) → Shows w₀ (inside f) words m → Fits (length words) f i end → {r : ℕ} {now : List ℕ}
       → Closes words (m .next) (m .parent) r now → Shows w₀ (turn f i) now (record { next = m .next; parent = r })
   unfolding turn close filledIn linkIn renderIn filled size
   end-turns top h u a = absurd (u .due p (ap (turn top) t))

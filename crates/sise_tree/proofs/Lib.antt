@@ -14,3 +14,9 @@ pub mod Descent
 pub mod ParseLaws
 pub mod FillingLoop
 pub mod ParseCases
+pub mod Walk
+pub mod WalkAtoms
+pub mod CallLaws
+pub mod WalkDepth
+pub mod WalkCalls
+pub mod WalkDoes

@@ -4,7 +4,7 @@ use Prim.Native.Nat.{ℕ, _/_, _≤_, _<_}
 use mathlib.Core.Path.{_≡_, refl, sym, ap, _∙_, subst}
 use mathlib.Core.Bool.{Bool, true, false, cond, false≢true}
 use mathlib.Core.List.{List, [], _∷_}
-use lib.Dec.{ltb, leb}
+use lib.Dec.{leb}
 use lib.ListN.{length}
 use borrow.Author.Tests.{lt-ltb, le-ltb, le-leb, lt-leb}
 use types.Run.{OneOf}
@@ -14,10 +14,9 @@ use native.Mathlib.Omega.{arith}
 use Rattle.sise_tree.proofs.parse.ParsedTree as answer
 use Rattle.sise_parser.specs.declared.reader.Reader.{Reader}
 use Rattle.sise_tree.specs.Tree.{Node, size}
-use Rattle.sise_tree.specs.Answers as answers
 use Rattle.sise_tree.specs.Answers.{Answer, answered, refused, refusedWith, parsedAs}
 use Rattle.sise_tree.specs.ParseTree.{longest, ReadNode, got, stopped, readNode, filledWith, Parses, parsed, parseTree, DoesParse}
-use Rattle.sise_tree.specs.Filling.{counted, readerOf, DoesCount, Fillable, CanFill, DoesFill}
+use Rattle.sise_tree.specs.Filling.{counted, readerOf, DoesCount, CanFill, DoesFill}
 use Rattle.sise_tree.specs.declared.parse.ParsedTree.{ParsedTree}
 use Rattle.sise_tree.specs.declared.parse.ParsedTree.the-variants.{Nodes, Refused, UnexpectedListEnd, TextTooLong, TableFull}
 use Rattle.sise_tree.specs.declared.parse.TreeRead.{TreeRead}

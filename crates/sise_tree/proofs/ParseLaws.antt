@@ -1,12 +1,11 @@
 -- What is known of a node that was read: it has no more nodes than the bytes it took, its atoms lie in the text, and the record after it is sound, with
 -- the lists open that were open before it. So the table that parse_tree writes holds the node.
 -- Assumes nothing.
-use Prim.Native.Nat.{ℕ, _+_, _*_, _/_, _≤_}
+use Prim.Native.Nat.{ℕ, _+_, _*_, _≤_}
 use native.Mathlib.Omega.{arith}
 use mathlib.Core.Path.{_≡_, refl, sym, ap, _∙_}
-use mathlib.Core.Bool.{Bool, true, false, _&&_, false≢true}
+use mathlib.Core.Bool.{true, false, false≢true}
 use mathlib.Core.List.{List}
-use lib.Dec.{leb, eqb}
 use lib.ListN.{length, drop}
 use lib.Seq.{take-append-seam}
 use borrow.Author.Tests.{le-leb, leb-true, eqb-true}
@@ -18,7 +17,7 @@ use Rattle.sise_parser.proofs.Calls.{sound-parts}
 use Rattle.sise_tree.specs.Tree.{Node, Nodes, size, sizes, table, lies, liesAll, Holds}
 use Rattle.sise_tree.specs.ParseTree.{got, readNode, filledWith}
 use Rattle.sise_tree.specs.Descent.{ReadsNode, one, many, ReadsNodes, none, more}
-use Rattle.sise_tree.proofs.ReadSteps.{begins, Took, took}
+use Rattle.sise_tree.proofs.ReadSteps.{begins, took}
 use Rattle.sise_tree.proofs.Descent.{read-descent}
 
 module _ (text : List ℕ) where

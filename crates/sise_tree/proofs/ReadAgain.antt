@@ -14,7 +14,7 @@ use Rattle.sise_parser.specs.Reader.{partOf, nextItem, next, freshReader, finis
 use Rattle.sise_layout.specs.Reading.{asRead, Stands}
 use Rattle.sise_serializer.specs.Serializer.{Style, Written, Answer, accepted, refused, freshSerializer}
 use Rattle.sise_serializer.specs.declared.serializer.Serializer.{Serializer}
-use Rattle.sise_layout.specs.Calls.{Call, putAtomCall, beginListCall, endListCall, finishCall, step, Item, atom as Item·atom, listStart, listEnd, Placed, placed, itemAt, itemOf, itemsOf, writing, textOf, Blank}
+use Rattle.sise_layout.specs.Calls.{largest, isAccepted, Call, putAtomCall, beginListCall, endListCall, finishCall, step, Item, atom as Item·atom, listStart, listEnd, Placed, placed, itemAt, itemOf, itemsOf, writing, textOf, Blank}
 use Rattle.sise_layout.proofs.Written.{Writes, writes}
 use Rattle.sise_layout.proofs.Ended.{finished-done}
 use Rattle.sise_layout.proofs.ReadBack.{follows}
@@ -26,7 +26,7 @@ use Rattle.sise_tree.specs.Alike.{Tree, leaf, branch, Trees, nothing, _a
 use Rattle.sise_tree.proofs.TreeLaws.{anded}
 use Rattle.sise_tree.proofs.Descent.{descent-read}
 use Rattle.sise_tree.specs.Tree.{Node, atom, list, Nodes, empty, _then_}
-use Rattle.sise_tree.specs.SerializeTree.{largest, nodeCalls, rowCalls, treeCalls, isAccepted, fits}
+use Rattle.sise_tree.specs.SerializeTree.{nodeCalls, rowCalls, treeCalls, fits}
 
 -- the items of calls that are accepted
 unfoldable callItem : Call → List Item

@@ -1,17 +1,17 @@
--- One call more: what a call that gives an item does to the reader, and that the reading never runs out of its bound on the items.
+-- What a call that gives an item does to the reader; that a reading never runs out of its bound on the items, since each moves the position; and an
+-- induction over the readings that come to a node.
 -- Assumes nothing.
-use Prim.Native.Nat.{ℕ, zero, suc, _+_, _-_, _≤_, _<_}
+use Prim.Native.Nat.{ℕ, zero, suc, _+_, _≤_, _<_}
 use native.Mathlib.Omega.{arith}
-use mathlib.Core.Path.{_≡_, refl, sym, ap, _∙_, subst}
-use mathlib.Core.Bool.{Bool, true, false, cond, false≢true}
-use mathlib.Core.List.{List, [], _∷_}
+use mathlib.Core.Path.{_≡_, refl, sym, ap, ap₂, _∙_, subst}
+use mathlib.Core.Bool.{Bool, true, false, false≢true}
+use mathlib.Core.List.{List}
 use lib.Dec.{eqb}
 use lib.ListN.{length, drop}
-use borrow.Author.Tests.{leb-true, eqb-true, eqb-false}
-use Rattle.sise_util.proofs.Ranges.{split}
+use borrow.Author.Tests.{leb-true, eqb-true}
 use Rattle.sise_parser.specs.Refusals.{Refusal}
 use Rattle.sise_parser.specs.Lexer.{Lexed, found, bad, eof, opening, closing, atom, between}
-use Rattle.sise_parser.specs.Reader.{reader, listsFit, isSound, Answer, item, refused, Next, next, refusedWith, closed, tokenAt, inBeginning, inParsing, nextItem}
+use Rattle.sise_parser.specs.Reader.{reader, listsFit, isSound, Answer, item, refused, Next, next, closed, tokenAt, inBeginning, inParsing, nextItem}
 use Rattle.sise_parser.specs.Meaning.{answerAs, nextAs}
 use Rattle.sise_parser.specs.declared.reader.Answer.{Answer as ReaderAnswer}
 use Rattle.sise_parser.specs.declared.reader.Next.{Next as ReaderNext}
@@ -34,7 +34,7 @@ begins Finishing = false
 
 -- what an item says of the record q that comes with it, where k lists were open
 abbrev Leaves : ℕ → Reader → Answer → Type 0
-Leaves k q (item (Atom p n)) = (p + n ≤ q .position) × (q .lists ≡ k) × (begins (q .phase) ≡ false)
+Leaves k q (item (Atom p n)) = (p + n ≡ q .position) × (q .lists ≡ k) × (begins (q .phase) ≡ false)
 Leaves k q (item (ListStart p)) = (q .lists ≡ k + 1) × (begins (q .phase) ≡ false)
 Leaves k q (item (ListEnd p)) = (q .lists + 1 ≡ k) × (begins (q .phase) ≡ false)
 Leaves k q (refused e) = Unit {0}
@@ -179,8 +179,8 @@ unfolding readFrom readAnswer
 read-refused text r f e = ap (λ (x : Next). readAnswer (readFrom (length text) text (x .reader)) (x .reader) f (x .answer)) e
 
 -- what the code's call says, where its answer is known
-pub called : (x : ReaderNext) {a : ReaderAnswer} {y : Next} → nextAs x ≡ y → x .answer ≡ a → y ≡ next (x .reader) (answerAs a)
-called x e d = sym e ∙ ap (λ (b : ReaderAnswer). next (x .reader) (answerAs b)) d
+pub called : (x : ReaderNext) {a : ReaderAnswer} {q : Reader} {y : Next} → nextAs x ≡ y → q ≡ x .reader → x .answer ≡ a → y ≡ next q (answerAs a)
+called x e z d = sym e ∙ ap₂ (λ (q : Reader) (b : ReaderAnswer). next q (answerAs b)) (sym z) d
 
 -- ---- a reading that comes to a node
 
@@ -211,7 +211,8 @@ unfolding readAnswer
 answer-got on r f (item i) h k = k i refl h
 answer-got on r f (refused e) h k = stopped-got h
 
--- what an item makes of the open lists leads to the node; P holds of the lists and the record where a reading begins that comes to n and leaves q
+-- P holds of the open lists and the record from which reading on comes to n and leaves q: where the next item makes it whole, and where it leads to
+-- lists and a record of which P holds
 pub record Leads (text : List ℕ) (n : Node) (q : Reader) (P : Frames → Reader → Type 0) : Type 0 where
   pub ended : (f : Frames) (r : Reader) (i : ParsedItem) → nextItem text r ≡ next q (item i) → turn f i ≡ whole n → P f r
   pub went : (f g : Frames) (r s : Reader) (i : ParsedItem) → nextItem text r ≡ next s (item i) → turn f i ≡ inside g → P g s → P f r

@@ -4,6 +4,7 @@ use Prim.Native.Nat.{ℕ, _+_, _*_, _/_, _^_, _≤_, _<_}
 use mathlib.Core.Path.{_≡_}
 use mathlib.Core.List.{List, [], _∷_, _++_}
 use lib.ListN.{length, take, drop}
+use Rattle.sise_parser.specs.Reader as reader
 use Rattle.sise_parser.specs.declared.reader.Reader.{Reader}
 use Rattle.sise_parser.specs.declared.reader.ParsedItem.{ParsedItem}
 use Rattle.sise_parser.specs.declared.reader.ParsedItem.the-variants.{Atom, ListStart, ListEnd}
@@ -23,6 +24,11 @@ counted (stopped e q) = refused e
 abbrev pub readerOf : ReadNode → Reader
 readerOf (got n q) = q
 readerOf (stopped e q) = q
+
+-- what a reading of so many nodes comes to by its last call's answer
+abbrev pub settledAs : reader.Answer → ℕ → Answer
+settledAs (reader.Answer.item i) n = answered n
+settledAs (reader.Answer.refused e) n = refused e
 
 pub record DoesCount (d : ReadNode) (r : TreeRead) : Type 0 where
   pub reader : r .reader ≡ readerOf d
@@ -96,23 +102,25 @@ pub record Shows (w₀ : List ℕ) (s : Stage) (words : List ℕ) (m : Mark) : T
   pub nexts : m .next ≡ filledIn s
   pub linked : m .parent ≡ linkIn s
 
-abbrev pub SmallItem : ParsedItem → Type 0
-SmallItem (Atom p n) = p + n < 2 ^ 32
-SmallItem (ListStart p) = Unit {0}
-SmallItem (ListEnd p) = Unit {0}
+-- an atom ends at e
+abbrev pub EndsAt : ℕ → ParsedItem → Type 0
+EndsAt e (Atom p n) = p + n ≡ e
+EndsAt e (ListStart p) = Unit {0}
+EndsAt e (ListEnd p) = Unit {0}
 
--- an item is one that may come, and what it leads to has room in n words of 32 bits
-pub record Fits (n : ℕ) (f : Frames) (i : ParsedItem) : Type 0 where
+-- an item, behind which the reader is at e, is one that may come, and what it leads to has room in n words of 32 bits
+pub record Fits (n : ℕ) (f : Frames) (i : ParsedItem) (e : ℕ) : Type 0 where
   pub due : (p : ℕ) → turn f i ≡ closes p → ⊥
   pub room : filledIn (turn f i) ≤ n / 4
-  pub item : SmallItem i
   pub small : filledIn (turn f i) + 1 < 2 ^ 32
+  pub ends : EndsAt e i
+  pub short : e < 2 ^ 32
 
-abbrev pub CanTurn : List ℕ → Mark → ParsedItem → Type 0
-CanTurn words m i = (w₀ : List ℕ) × (f : Frames) × Shows w₀ (inside f) words m × Fits (length words) f i
+abbrev pub CanTurn : List ℕ → Mark → ParsedItem → ℕ → Type 0
+CanTurn words m i e = (w₀ : List ℕ) × (f : Frames) × Shows w₀ (inside f) words m × Fits (length words) f i e
 
-abbrev pub Turns : List ℕ → Mark → ParsedItem → Mark → List ℕ → Type 0
-Turns words m i r now = (w₀ : List ℕ) (f : Frames) → Shows w₀ (inside f) words m → Fits (length words) f i → Shows w₀ (turn f i) now r
+abbrev pub Turns : List ℕ → Mark → ParsedItem → ℕ → Mark → List ℕ → Type 0
+Turns words m i e r now = (w₀ : List ℕ) (f : Frames) → Shows w₀ (inside f) words m → Fits (length words) f i e → Shows w₀ (turn f i) now r
 
 -- the node that is due is known to be one, and to have room
 pub record Fillable (text : List ℕ) (r : Reader) (words : List ℕ) (n : Node) (q : Reader) : Type 0 where

@@ -8,6 +8,8 @@ pub mod Parts
 pub mod Descent
 pub mod Alike
 pub mod Rows
+pub mod Writing
 pub mod TableExamples
 pub mod Filling
 pub mod ParseExamples
+pub mod WriteExamples

@@ -1,6 +1,6 @@
 -- What serialize_tree answers and writes (document 01, "Trees" and "Refusals"), and the house style.
 -- Assumes nothing.
-use Prim.Native.Nat.{ℕ, _+_, _-_, _^_}
+use Prim.Native.Nat.{ℕ, _+_}
 use mathlib.Core.Path.{_≡_}
 use mathlib.Core.Bool.{Bool, true, false, _&&_, cond}
 use mathlib.Core.Option.{Option, none, some}
@@ -14,16 +14,12 @@ use Rattle.sise_serializer.specs.Serializer.{Style, style, Written, isSound, de
 use Rattle.sise_serializer.specs.declared.serializer.Phase.{Phase}
 use Rattle.sise_serializer.specs.declared.serializer.Phase.the-variants.{Beginning, Writing, Finished, Done}
 use Rattle.sise_serializer.specs.declared.serializer.Serializer.{Serializer}
-use Rattle.sise_layout.specs.Calls.{Call, putAtomCall, beginListCall, endListCall, finishCall, step, Run, run}
+use Rattle.sise_layout.specs.Calls.{largest, isAccepted, Call, putAtomCall, beginListCall, endListCall, finishCall, step, Run, run}
 use Rattle.sise_tree.specs.Tree.{Node, atom, list, Nodes, empty, _then_, depth}
 use Rattle.sise_tree.specs.Decision.{decide}
 use Rattle.sise_tree.specs.ParseTree.{longest}
 use Rattle.sise_tree.specs.Answers.{Answer, answered, refused, refusedWith, putAs}
 use Rattle.sise_tree.specs.declared.serialize.TreeWrote.{TreeWrote}
-
--- a threshold "of 64 unsigned bits (largest: all ones)"
-abbrev pub largest : ℕ
-largest = 2 ^ 64 - 1
 
 unfoldable mutual
   -- a node's calls: an atom at the threshold a, "all else" at "the given one", t
@@ -49,10 +45,6 @@ unfoldable mutual
   pub atomsHoldAll : List ℕ → Nodes → Bool
   atomsHoldAll text empty = true
   atomsHoldAll text (n then c) = atomsHold text n && atomsHoldAll text c
-
-abbrev pub isAccepted : writer.Answer → Bool
-isAccepted (writer.Answer.accepted o) = true
-isAccepted (writer.Answer.refused n) = false
 
 -- none of the calls, one after the other, is refused: the whole has room
 unfoldable pub fits : Style → ℕ → Serializer → List Call → Bool

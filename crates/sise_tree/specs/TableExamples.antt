@@ -10,10 +10,10 @@ use Rattle.sise_tree.specs.IndexPath.{nodeAt, childAt, indexPath}
 use Rattle.sise_tree.specs.Answers.{answered, refusedWith}
 
 -- `(z (+1 "a b") ~)`
-abbrev text : List ℕ
+abbrev pub text : List ℕ
 text = 40 ∷ 122 ∷ 32 ∷ 40 ∷ 43 ∷ 49 ∷ 32 ∷ 34 ∷ 97 ∷ 32 ∷ 98 ∷ 34 ∷ 41 ∷ 32 ∷ 126 ∷ 41 ∷ []
 
-abbrev worked : Node
+abbrev pub worked : Node
 worked = list (atom 1 1 then (list (atom 4 2 then (atom 7 5 then empty)) then (atom 14 1 then empty)))
 
 abbrev words : List ℕ

@@ -8,9 +8,10 @@ use sise_parser::Reader;
 ghost use mathlib.Core.Path.{_≡_};
 ghost use Prim.Native.Nat.{_<_, _/_};
 ghost use lib.ListN.{length};
+ghost use Rattle.sise_parser.specs.Meaning.{answerAs};
 ghost use Rattle.sise_tree.specs.Answers.{parsedAs, numberOf, placeOf, codeOf};
 ghost use Rattle.sise_tree.specs.ParseTree.{readNode, parseTree, DoesParse};
-ghost use Rattle.sise_tree.specs.Filling.{DoesCount, putAt, CanAttach, Attaches, CanClose, Closes, CanTurn, Turns, CanFill, DoesFill};
+ghost use Rattle.sise_tree.specs.Filling.{settledAs, DoesCount, putAt, CanAttach, Attaches, CanClose, Closes, CanTurn, Turns, CanFill, DoesFill};
 
 // What parse_tree answers: the number of nodes, or a refusal.
 pub enum ParsedTree {
@@ -70,6 +71,29 @@ pub struct TreeRead {
     pub answer: ParsedTree,
 }
 
+// The same record, copied field by field as next_item wrote it, which is faster than a copy of the whole.
+fn renewed(r: Reader) -> Reader
+    ensures { λ s. ⌜ s ≡ r ⌝ }
+{
+    let phase = r.phase;
+    Reader {
+        position: r.position,
+        phase,
+        lists: r.lists,
+    }
+}
+
+// What a reading comes to whose last call answered so: a node, of so many nodes, or the refusal. The loop leaves this to it, and looks at the kind of an
+// answer alone.
+fn settled(answer: Answer, nodes: usize) -> ParsedTree
+    ensures { λ r. ⌜ parsedAs r ≡ settledAs (answerAs answer) nodes ⌝ }
+{
+    match answer {
+        Answer::Item(_) => ParsedTree::Nodes(nodes),
+        Answer::Refused(error) => ParsedTree::Refused(error),
+    }
+}
+
 // Reads the node that is due and counts its nodes.
 fn count_nodes(text: &[u8], reader: Reader) -> TreeRead
     ensures { λ r. ⌜ DoesCount (readNode (now (text .entry)) reader) r ⌝ }
@@ -80,30 +104,32 @@ fn count_nodes(text: &[u8], reader: Reader) -> TreeRead
     let answer = loop {
         let next = r.next_item(text);
         let answer = next.answer;
-        r = next.reader;
-        match answer {
-            Answer::Refused(error) => break ParsedTree::Refused(error),
-            Answer::Item(item) => match item {
-                ParsedItem::Atom { .. } => {
-                    nodes += 1;
-                    if depth == 0 {
-                        break ParsedTree::Nodes(nodes);
-                    }
+        let after = next.reader;
+        r = renewed(after);
+        let Answer::Item(item) = answer else {
+            let last = next.answer;
+            break settled(last, nodes);
+        };
+        match item {
+            ParsedItem::Atom { .. } => {
+                nodes += 1;
+                if depth == 0 {
+                    break ParsedTree::Nodes(nodes);
                 }
-                ParsedItem::ListStart { .. } => {
-                    nodes += 1;
-                    depth += 1;
+            }
+            ParsedItem::ListStart { .. } => {
+                nodes += 1;
+                depth += 1;
+            }
+            ParsedItem::ListEnd { pos } => {
+                if depth == 0 {
+                    break ParsedTree::UnexpectedListEnd { pos };
                 }
-                ParsedItem::ListEnd { pos } => {
-                    if depth == 0 {
-                        break ParsedTree::UnexpectedListEnd { pos };
-                    }
-                    depth -= 1;
-                    if depth == 0 {
-                        break ParsedTree::Nodes(nodes);
-                    }
+                depth -= 1;
+                if depth == 0 {
+                    break ParsedTree::Nodes(nodes);
                 }
-            },
+            }
         }
     };
     TreeRead { reader: r, answer }
@@ -153,15 +179,17 @@ fn close_list(table: &mut [u32], next: u32, parent: u32) -> u32
     link
 }
 
-// An item's words are written. While a list is open, its third word is the link to its parent.
-fn put_item(table: &mut [u32], mark: Mark, item: ParsedItem) -> Mark
-    requires { ⌜ CanTurn (now table) mark item ⌝ }
-    ensures { λ r. ⌜ Turns (now (table .entry)) mark item r (now (table .exit)) ⌝ }
+// The words of an item that ends at `end` are written. While a list is open, its third word is the link to its parent. An atom's length is worked out,
+// since place and length, read together where next_item wrote them one by one, would cost more.
+fn put_item(table: &mut [u32], mark: Mark, item: ParsedItem, end: usize) -> Mark
+    requires { ⌜ CanTurn (now table) mark item end ⌝ }
+    ensures { λ r. ⌜ Turns (now (table .entry)) mark item end r (now (table .exit)) ⌝ }
 {
     let next = mark.next;
     let parent = mark.parent;
     match item {
-        ParsedItem::Atom { pos, len } => {
+        ParsedItem::Atom { pos, .. } => {
+            let len = end - pos;
             put(table, wide(next), 1, pos as u32, len as u32, 1);
             count_child(table, parent);
             Mark {
@@ -191,13 +219,14 @@ fn fill_nodes(text: &[u8], reader: Reader, table: &mut [u32])
     let mut r = reader;
     let mut mark = Mark { next: 0, parent: 0 };
     loop {
-        let read = r.next_item(text);
-        let answer = read.answer;
-        r = read.reader;
+        let next = r.next_item(text);
+        let answer = next.answer;
+        let after = next.reader;
+        r = renewed(after);
         let Answer::Item(item) = answer else {
             return;
         };
-        mark = put_item(table, mark, item);
+        mark = put_item(table, mark, item, r.position);
         if mark.parent == 0 {
             return;
         }

@@ -1,31 +1,24 @@
 -- `run` meets its contract: the text lies in the script, after the letter.
 -- Assumes nothing.
 use borrow.Author.Needs.{needs}
-use mathlib.Core.Path.{_≡_, subst}
-use mathlib.Core.Bool.{Bool}
-use Prim.Native.Nat.{ℕ, _+_, _<_}
 use native.Mathlib.Omega.{arith}
-use Rattle.replay.specs.Script.{TextFrom}
-use Rattle.replay.specs.declared.script.ReaderCase.{ReaderCase}
+use Rattle.replay.proofs.Froms.{text-from}
 use Rattle.replay.proofs.reader_case.run.Statement.{statement}
 use Rattle.replay.proofs.reader_case.run.Tie as tie
-
-text-from : {r : ReaderCase} {s l k : ℕ} {f : Bool} (from n : ℕ) → r ≡ ReaderCase.Read s l k f → TextFrom from n r → (from < s) × (s + l < n)
-text-from from n e h = subst (TextFrom from n) e h
 
 pub run-spec : {M : Type 1} → statement M
 run-spec =
     tie.close
     (tie.spec
-    (λ c κs. search needs)  -- read-reader-case-requires
+    (λ c κs. search needs)  -- read-text-case-requires
     (λ c. search needs)  -- enum-known-start
-    (λ c. let s = text-from _ _ (c .before .start .given .1) (c .before .before .before .read-reader-case .ensures) in omega arith)  -- add-end
+    (λ c. let s = text-from _ _ _ (c .before .start .given .1) (c .before .before .before .read-text-case .ensures) in omega arith)  -- add-end
     (λ c. search needs)  -- sub-put-case
     (λ c. search needs)  -- part-put-case-start
-    (λ c. let s = text-from _ _ (c .before .before .start .given .1) (c .before .before .before .before .read-reader-case .ensures) in omega arith)  -- part-put-case-end
+    (λ c. let s = text-from _ _ _ (c .before .before .start .given .1) (c .before .before .before .before .read-text-case .ensures) in omega arith)  -- part-put-case-end
     (λ c κs. search needs)  -- put-case-requires
-    (λ c. let s = text-from _ _ (c .before .before .before .before .before .before .start .given .1) (c .before .before .before .before .before .before .before .before .read-reader-case .ensures) in omega arith)  -- add-t16
+    (λ c. let s = text-from _ _ _ (c .before .before .before .before .before .before .start .given .1) (c .before .before .before .before .before .before .before .before .read-text-case .ensures) in omega arith)  -- add-t16
     (λ c. search needs)  -- enum-told
     (λ c. search needs)  -- same-length
-    (λ c. let s = text-from _ _ (c .before .before .before .before .before .before .start .given .1) (c .before .before .before .before .before .before .before .before .read-reader-case .ensures) in omega arith)  -- returns
+    (λ c. let s = text-from _ _ _ (c .before .before .before .before .before .before .start .given .1) (c .before .before .before .before .before .before .before .before .read-text-case .ensures) in omega arith)  -- returns
     (λ c. search needs))  -- returns-2

@@ -23,7 +23,6 @@ read-atom-call-spec =
     (λ c. let s = number-from _ _ (c .before .before .number .given .1) (c .before .before .before .before .read-number .ensures) in omega (arith, leb-false))  -- add-if2
     (λ c. let s = number-from _ _ (c .before .before .before .number .given .1) (c .before .before .before .before .before .read-number .ensures) in omega (arith, leb-false))  -- shared-slice-read-if2
     (λ c. search needs)  -- returns-3
-    (λ c. let s = number-from _ _ (c .before .before .before .before .number .given .1) (c .before .before .before .before .before .before .read-number .ensures) in omega (arith, leb-false))  -- add-t10
+    (λ c. let s = number-from _ _ (c .before .before .before .before .number .given .1) (c .before .before .before .before .before .before .read-number .ensures) in omega (arith, leb-false))  -- add-end
     (λ c. let s = number-from _ _ (c .before .before .before .before .number .given .1) (c .before .before .before .before .before .before .read-number .ensures) in omega (arith, leb-false))  -- add-t12
-    (λ c. let s = number-from _ _ (c .before .before .before .before .number .given .1) (c .before .before .before .before .before .before .read-number .ensures) in omega (arith, leb-false))  -- add-t11
-    (λ c. let s = number-from _ _ (c .before .before .before .before .number .given .1) (c .before .before .before .before .before .before .read-number .ensures) in let l = number-from _ _ (c .before .before .before .before .before .before .before .before .len .given .1) (c .before .before .before .before .before .before .before .before .before .before .read-field .ensures) in (omega arith, omega (arith, leb-false), omega arith, omega (arith, leb-false))))  -- returns-4
+    (λ c. let s = number-from _ _ (c .before .before .before .before .number .given .1) (c .before .before .before .before .before .before .read-number .ensures) in let l = number-from _ _ (c .before .before .before .before .before .before .before .before .len .given .1) (c .before .before .before .before .before .before .before .before .before .before .read-field .ensures) in (omega arith, omega (arith, leb-false), (omega arith, omega (arith, leb-false)))))  -- returns-4

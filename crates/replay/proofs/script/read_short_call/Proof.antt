@@ -14,4 +14,5 @@ read-short-call-spec =
     (λ c. search needs)  -- enum-known-number
     (λ c. search needs)  -- enum-told
     (λ c. search needs)  -- returns
-    (λ c. let s = number-from _ _ (c .before .number .given .1) (c .before .before .before .read-field .ensures) in (s .0, s .1, omega arith, s .1)))  -- returns-2
+    (λ c. search needs)  -- returns-2
+    (λ c. let s = number-from _ _ (c .before .before .number .given .1) (c .before .before .before .before .read-field .ensures) in (s .0, s .1, (omega arith, s .1))))  -- returns-3

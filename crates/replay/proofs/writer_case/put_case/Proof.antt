@@ -30,18 +30,15 @@ put-case-spec =
     (λ c. search needs)  -- loop-holds
     (λ c. search needs)  -- sub-left
     (λ c κs. search needs)  -- read-call-requires
-    (λ c. search needs)  -- enum-known-letter
+    (λ c. search needs)  -- enum-known-asked
     (λ c. search needs)  -- enum-told
     (λ c. search needs)  -- same-length
     (λ c. search needs)  -- same-length-2
     (λ c. search needs)  -- returns
-    (λ c. let s = call-from _ _ (c .before .before .letter .given .1) (c .before .before .before .before .read-call .ensures) in omega arith)  -- sub-make-call
-    (λ c. let s = call-from _ _ (c .before .before .letter .given .1) (c .before .before .before .before .read-call .ensures) in omega arith)  -- part-make-call-start
-    (λ c. let s = call-from _ _ (c .before .before .letter .given .1) (c .before .before .before .before .read-call .ensures) in omega arith)  -- part-make-call-end
-    (λ c κs. search needs)  -- make-call-requires
+    (λ c κs. call-from _ _ (c .before .before .asked .given .1) (c .before .before .before .before .read-call .ensures) .2)  -- make-call-requires
     (λ c κs. search needs)  -- put-call-requires
     (λ c. search needs)  -- loop-less
-    (λ c. let s = call-from _ _ (c .before .before .before .before .before .before .before .before .before .before .before .letter .given .1) (c .before .before .before .before .before .before .before .before .before .before .before .before .before .read-call .ensures) in (search needs, search needs, omega arith))  -- loop-again
+    (λ c. let s = call-from _ _ (c .before .before .before .before .before .before .before .before .before .before .asked .given .1) (c .before .before .before .before .before .before .before .before .before .before .before .before .read-call .ensures) in (search needs, search needs, omega arith))  -- loop-again
     (λ c κs. search needs)  -- put-written-requires
     (λ c. search needs)  -- same-length-3
     (λ c. search needs)  -- same-length-4

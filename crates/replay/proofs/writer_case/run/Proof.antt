@@ -4,7 +4,7 @@ use borrow.Author.Needs.{needs}
 use native.Mathlib.Omega.{arith}
 use mathlib.Core.Path.{sym}
 use lib.Seq.{length-take-le}
-use Rattle.replay.proofs.Froms.{style-from, onward-from}
+use Rattle.replay.proofs.Froms.{style-from, onward-after}
 use Rattle.replay.proofs.writer_case.run.Statement.{statement}
 use Rattle.replay.proofs.writer_case.run.Tie as tie
 
@@ -28,5 +28,5 @@ run-spec =
     (λ c κs. let s = style-from _ _ (c .before .before .before .before .before .before .room .given .1) (c .before .before .before .before .before .before .before .before .read-writer-case .ensures) in omega arith)  -- put-case-requires
     (λ c. search needs)  -- enum-told
     (λ c. search needs)  -- same-length
-    (λ c. let s = style-from _ _ (c .before .before .before .before .before .before .before .before .before .before .room .given .1) (c .before .before .before .before .before .before .before .before .before .before .before .before .read-writer-case .ensures) in onward-from _ _ (c .before .before .before .before .before .before .before .before .before .before .room .given .0 .1 .1 .0) (c .before .before .before .before .before .before .before .before .before .before .room .given .0 .1 .1 .1 .0) (c .before .before .before .put-case .result) (s .0) (c .before .before .before .put-case .ensures))  -- returns
+    (λ c. let s = style-from _ _ (c .before .before .before .before .before .before .before .before .before .before .room .given .1) (c .before .before .before .before .before .before .before .before .before .before .before .before .read-writer-case .ensures) in onward-after _ _ (c .before .before .before .put-case .result) (omega arith) (c .before .before .before .put-case .ensures))  -- returns
     (λ c. search needs))  -- returns-2

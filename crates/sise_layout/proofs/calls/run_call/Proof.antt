@@ -106,28 +106,4 @@ returns-4 c =
 pub run-call-spec : {M : Type 1} → statement M
 run-call-spec =
     tie.close
-    (tie.spec
-    mul-kind
-    shared-slice-read-kind
-    add-place
-    mul-place
-    shared-slice-read-place
-    add-len
-    mul-len
-    shared-slice-read-len
-    add-threshold
-    mul-threshold
-    shared-slice-read-threshold
-    atom-bytes-requires
-    put-atom-step-requires
-    begin-step-requires
-    end-step-requires
-    finish-step-requires
-    same-length
-    returns
-    same-length-2
-    returns-2
-    same-length-3
-    returns-3
-    same-length-4
-    returns-4)
+    (tie.spec mul-kind shared-slice-read-kind add-place mul-place shared-slice-read-place add-len mul-len shared-slice-read-len add-threshold mul-threshold shared-slice-read-threshold atom-bytes-requires put-atom-step-requires same-length returns begin-step-requires same-length-2 returns-2 end-step-requires same-length-3 returns-3 finish-step-requires same-length-4 returns-4)

@@ -44,14 +44,25 @@ enum-told c = search needs
 first-list-requires : tie.Need-first-list-requires
 first-list-requires c κs = search needs
 
+same-length : tie.Need-same-length
+same-length c = search needs
+
+returns-2 : tie.Need-returns-2
+unfolding beginIn
+returns-2 c =
+    let first = c .before .before in
+    let told = first .before .before .before in
+    let el = told .before .before in
+    rw (begin-sound _ _ (whole (start (el .before))) _ (is-sound el) (told .enum-told .given .1)) (first .first-list .ensures)
+
 enum-told-2 : tie.Need-enum-told-2
 enum-told-2 c = search needs
 
 refused-requires-2 : tie.Need-refused-requires-2
 refused-requires-2 c κs = search needs
 
-returns-2 : tie.Need-returns-2
-returns-2 c =
+returns-3 : tie.Need-returns-3
+returns-3 c =
     let test = c .before in
     let told = test .before .before in
     let el = told .before .before in
@@ -70,29 +81,6 @@ inner-requires c κs =
     let st = start (el .before) in
     ((small (st .args .progress) (st .args .flags .now) (is-sound el), writing-lists (whole st) (is-sound el) (told .enum-told2 .given .1)), λ _. omega arith)
 
-enum-told-3 : tie.Need-enum-told-3
-enum-told-3 c = search needs
-
-refused-requires-3 : tie.Need-refused-requires-3
-refused-requires-3 c κs = search needs
-
-enum-told-4 : tie.Need-enum-told-4
-enum-told-4 c = search needs
-
-refused-requires-4 : tie.Need-refused-requires-4
-refused-requires-4 c κs = search needs
-
-same-length : tie.Need-same-length
-same-length c = search needs
-
-returns-3 : tie.Need-returns-3
-unfolding beginIn
-returns-3 c =
-    let first = c .before .before in
-    let told = first .before .before .before in
-    let el = told .before .before in
-    rw (begin-sound _ _ (whole (start (el .before))) _ (is-sound el) (told .enum-told .given .1)) (first .first-list .ensures)
-
 same-length-2 : tie.Need-same-length-2
 same-length-2 c = search needs
 
@@ -105,6 +93,12 @@ returns-4 c =
     let w = whole (start (el .before)) in
     rw (begin-sound _ _ w _ (is-sound el) (told .enum-told2 .given .1), begin-inner _ _ w _ (omega arith)) (item .inner .ensures)
 
+enum-told-3 : tie.Need-enum-told-3
+enum-told-3 c = search needs
+
+refused-requires-3 : tie.Need-refused-requires-3
+refused-requires-3 c κs = search needs
+
 returns-5 : tie.Need-returns-5
 unfolding beginIn
 returns-5 c =
@@ -113,6 +107,12 @@ returns-5 c =
     let st = start (el .before) in
     let a = st .args in
     rw (begin-sound _ _ (whole st) _ (is-sound el) (told .enum-told3 .given .1)) (refused-steps (a .progress) (a .flags .now) (a .commit) (a .buf .now) 19 (c .refused3 .ensures) refl)
+
+enum-told-4 : tie.Need-enum-told-4
+enum-told-4 c = search needs
+
+refused-requires-4 : tie.Need-refused-requires-4
+refused-requires-4 c κs = search needs
 
 returns-6 : tie.Need-returns-6
 unfolding beginIn
@@ -126,24 +126,4 @@ returns-6 c =
 pub begin-step-spec : {M : Type 1} → statement M
 begin-step-spec =
     tie.close
-    (tie.spec
-    is-sound-requires
-    refused-requires
-    returns
-    enum-told
-    first-list-requires
-    enum-told-2
-    refused-requires-2
-    returns-2
-    slice-aggregate-inner
-    inner-requires
-    enum-told-3
-    refused-requires-3
-    enum-told-4
-    refused-requires-4
-    same-length
-    returns-3
-    same-length-2
-    returns-4
-    returns-5
-    returns-6)
+    (tie.spec is-sound-requires refused-requires returns enum-told first-list-requires same-length returns-2 enum-told-2 refused-requires-2 returns-3 slice-aggregate-inner inner-requires same-length-2 returns-4 enum-told-3 refused-requires-3 returns-5 enum-told-4 refused-requires-4 returns-6)

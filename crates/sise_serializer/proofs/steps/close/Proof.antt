@@ -53,11 +53,34 @@ add-indents c = search needs
 closed-requires : tie.Need-closed-requires
 closed-requires c κs = search needs
 
+same-length : tie.Need-same-length
+same-length c = search needs
+
+returns : tie.Need-returns
+unfolding closeAs
+returns c =
+    let at = c .before .before .before .before .before in
+    let pl = at .before .before .before .before in
+    let arm = pl .before .before .before in
+    let a = start (arm .before) .args in
+    closed-steps (styled (arm .before)) (a .progress) (a .flags .now) (a .commit) (arm .if1 .taken) (pl .place .ensures) (at .at .given .1) (c .closed .ensures)
+
 enum-told : tie.Need-enum-told
 enum-told c = search needs
 
 refused-requires : tie.Need-refused-requires
 refused-requires c κs = search needs
+
+same-length-2 : tie.Need-same-length-2
+same-length-2 c = search needs
+
+returns-2 : tie.Need-returns-2
+unfolding closeAs
+returns-2 c =
+    let pl = c .before .before .before .before .before in
+    let arm = pl .before .before .before in
+    let a = start (arm .before) .args in
+    close-full-steps (styled (arm .before)) (a .progress) (a .flags .now) (a .commit) (arm .if1 .taken) (pl .place .ensures) (c .refused .ensures) (c .before .enum-told .given .1)
 
 slice-aggregate-place-2 : tie.Need-slice-aggregate-place-2
 slice-aggregate-place-2 c = search needs
@@ -80,35 +103,6 @@ add-line-2 c = search needs
 closed-requires-2 : tie.Need-closed-requires-2
 closed-requires-2 c κs = search needs
 
-enum-told-2 : tie.Need-enum-told-2
-enum-told-2 c = search needs
-
-refused-requires-2 : tie.Need-refused-requires-2
-refused-requires-2 c κs = search needs
-
-same-length : tie.Need-same-length
-same-length c = search needs
-
-returns : tie.Need-returns
-unfolding closeAs
-returns c =
-    let at = c .before .before .before .before .before in
-    let pl = at .before .before .before .before in
-    let arm = pl .before .before .before in
-    let a = start (arm .before) .args in
-    closed-steps (styled (arm .before)) (a .progress) (a .flags .now) (a .commit) (arm .if1 .taken) (pl .place .ensures) (at .at .given .1) (c .closed .ensures)
-
-same-length-2 : tie.Need-same-length-2
-same-length-2 c = search needs
-
-returns-2 : tie.Need-returns-2
-unfolding closeAs
-returns-2 c =
-    let pl = c .before .before .before .before .before in
-    let arm = pl .before .before .before in
-    let a = start (arm .before) .args in
-    close-full-steps (styled (arm .before)) (a .progress) (a .flags .now) (a .commit) (arm .if1 .taken) (pl .place .ensures) (c .refused .ensures) (c .before .enum-told .given .1)
-
 same-length-3 : tie.Need-same-length-3
 same-length-3 c = search needs
 
@@ -120,6 +114,12 @@ returns-3 c =
     let arm = pl .before .before .before .before .before in
     let a = start (arm .before) .args in
     closed-steps (styled (arm .before)) (a .progress) (a .flags .now) (a .commit) (arm .if1 .left) (pl .place2 .ensures) (at .at2 .given .1) (c .closed2 .ensures)
+
+enum-told-2 : tie.Need-enum-told-2
+enum-told-2 c = search needs
+
+refused-requires-2 : tie.Need-refused-requires-2
+refused-requires-2 c κs = search needs
 
 same-length-4 : tie.Need-same-length-4
 same-length-4 c = search needs
@@ -135,33 +135,4 @@ returns-4 c =
 pub close-spec : {M : Type 1} → statement M
 close-spec =
     tie.close
-    (tie.spec
-    sub-d
-    element-copy-out-if1
-    slice-aggregate-place
-    place-requires
-    enum-known-at
-    mul-line
-    add-line
-    add-breaks
-    add-indents
-    closed-requires
-    enum-told
-    refused-requires
-    slice-aggregate-place-2
-    slice-aggregate-place-3
-    slice-aggregate-place-4
-    place-requires-2
-    enum-known-at-2
-    add-line-2
-    closed-requires-2
-    enum-told-2
-    refused-requires-2
-    same-length
-    returns
-    same-length-2
-    returns-2
-    same-length-3
-    returns-3
-    same-length-4
-    returns-4)
+    (tie.spec sub-d element-copy-out-if1 slice-aggregate-place place-requires enum-known-at mul-line add-line add-breaks add-indents closed-requires same-length returns enum-told refused-requires same-length-2 returns-2 slice-aggregate-place-2 slice-aggregate-place-3 slice-aggregate-place-4 place-requires-2 enum-known-at-2 add-line-2 closed-requires-2 same-length-3 returns-3 enum-told-2 refused-requires-2 same-length-4 returns-4)

@@ -43,6 +43,15 @@ enum-told c = search needs
 refused-requires-2 : tie.Need-refused-requires-2
 refused-requires-2 c κs = search needs
 
+returns-2 : tie.Need-returns-2
+unfolding endIn
+returns-2 c =
+    let told = c .before in
+    let el = told .before .before in
+    let st = start (el .before) in
+    let a = st .args in
+    rw (end-sound _ _ (whole st) (is-sound el) (told .enum-told .given .1)) (refused-steps (a .progress) (a .flags .now) (a .commit) (a .buf .now) 18 (c .refused2 .ensures) refl)
+
 enum-told-2 : tie.Need-enum-told-2
 enum-told-2 c = search needs
 
@@ -52,27 +61,6 @@ close-requires c κs =
     let el = told .before .before in
     let st = start (el .before) in
     (small (st .args .progress) (st .args .flags .now) (is-sound el), writing-lists (whole st) (is-sound el) (told .enum-told2 .given .1))
-
-enum-told-3 : tie.Need-enum-told-3
-enum-told-3 c = search needs
-
-refused-requires-3 : tie.Need-refused-requires-3
-refused-requires-3 c κs = search needs
-
-enum-told-4 : tie.Need-enum-told-4
-enum-told-4 c = search needs
-
-refused-requires-4 : tie.Need-refused-requires-4
-refused-requires-4 c κs = search needs
-
-returns-2 : tie.Need-returns-2
-unfolding endIn
-returns-2 c =
-    let told = c .before in
-    let el = told .before .before in
-    let st = start (el .before) in
-    let a = st .args in
-    rw (end-sound _ _ (whole st) (is-sound el) (told .enum-told .given .1)) (refused-steps (a .progress) (a .flags .now) (a .commit) (a .buf .now) 18 (c .refused2 .ensures) refl)
 
 same-length : tie.Need-same-length
 same-length c = search needs
@@ -85,6 +73,12 @@ returns-3 c =
     let el = told .before .before in
     rw (end-sound _ _ (whole (start (el .before))) (is-sound el) (told .enum-told2 .given .1)) (cl .close .ensures)
 
+enum-told-3 : tie.Need-enum-told-3
+enum-told-3 c = search needs
+
+refused-requires-3 : tie.Need-refused-requires-3
+refused-requires-3 c κs = search needs
+
 returns-4 : tie.Need-returns-4
 unfolding endIn
 returns-4 c =
@@ -93,6 +87,12 @@ returns-4 c =
     let st = start (el .before) in
     let a = st .args in
     rw (end-sound _ _ (whole st) (is-sound el) (told .enum-told3 .given .1)) (refused-steps (a .progress) (a .flags .now) (a .commit) (a .buf .now) 19 (c .refused3 .ensures) refl)
+
+enum-told-4 : tie.Need-enum-told-4
+enum-told-4 c = search needs
+
+refused-requires-4 : tie.Need-refused-requires-4
+refused-requires-4 c κs = search needs
 
 returns-5 : tie.Need-returns-5
 unfolding endIn
@@ -106,20 +106,4 @@ returns-5 c =
 pub end-step-spec : {M : Type 1} → statement M
 end-step-spec =
     tie.close
-    (tie.spec
-    is-sound-requires
-    refused-requires
-    returns
-    enum-told
-    refused-requires-2
-    enum-told-2
-    close-requires
-    enum-told-3
-    refused-requires-3
-    enum-told-4
-    refused-requires-4
-    returns-2
-    same-length
-    returns-3
-    returns-4
-    returns-5)
+    (tie.spec is-sound-requires refused-requires returns enum-told refused-requires-2 returns-2 enum-told-2 close-requires same-length returns-3 enum-told-3 refused-requires-3 returns-4 enum-told-4 refused-requires-4 returns-5)

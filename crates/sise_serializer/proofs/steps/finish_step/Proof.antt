@@ -43,27 +43,6 @@ enum-told c = search needs
 refused-requires-2 : tie.Need-refused-requires-2
 refused-requires-2 c κs = search needs
 
-enum-told-2 : tie.Need-enum-told-2
-enum-told-2 c = search needs
-
-refused-requires-3 : tie.Need-refused-requires-3
-refused-requires-3 c κs = search needs
-
-enum-told-3 : tie.Need-enum-told-3
-enum-told-3 c = search needs
-
-last-requires : tie.Need-last-requires
-last-requires c κs =
-    let el = c .before .before .before in
-    let st = start (el .before) in
-    small (st .args .progress) (st .args .flags .now) (is-sound el)
-
-enum-told-4 : tie.Need-enum-told-4
-enum-told-4 c = search needs
-
-refused-requires-4 : tie.Need-refused-requires-4
-refused-requires-4 c κs = search needs
-
 returns-2 : tie.Need-returns-2
 unfolding finishIn
 returns-2 c =
@@ -73,6 +52,12 @@ returns-2 c =
     let a = st .args in
     rw (finish-sound _ _ (whole st) _ (is-sound el) (told .enum-told .given .1)) (refused-steps (a .progress) (a .flags .now) (a .commit) (a .buf .now) 20 (c .refused2 .ensures) refl)
 
+enum-told-2 : tie.Need-enum-told-2
+enum-told-2 c = search needs
+
+refused-requires-3 : tie.Need-refused-requires-3
+refused-requires-3 c κs = search needs
+
 returns-3 : tie.Need-returns-3
 unfolding finishIn
 returns-3 c =
@@ -81,6 +66,15 @@ returns-3 c =
     let st = start (el .before) in
     let a = st .args in
     rw (finish-sound _ _ (whole st) _ (is-sound el) (told .enum-told2 .given .1)) (refused-steps (a .progress) (a .flags .now) (a .commit) (a .buf .now) 20 (c .refused3 .ensures) refl)
+
+enum-told-3 : tie.Need-enum-told-3
+enum-told-3 c = search needs
+
+last-requires : tie.Need-last-requires
+last-requires c κs =
+    let el = c .before .before .before in
+    let st = start (el .before) in
+    small (st .args .progress) (st .args .flags .now) (is-sound el)
 
 same-length : tie.Need-same-length
 same-length c = search needs
@@ -94,6 +88,12 @@ returns-4 c =
     let st = start (el .before) in
     rw (finish-sound _ _ (whole st) _ (is-sound el) (told .enum-told3 .given .1)) (la .last .ensures (st .args .flags .now))
 
+enum-told-4 : tie.Need-enum-told-4
+enum-told-4 c = search needs
+
+refused-requires-4 : tie.Need-refused-requires-4
+refused-requires-4 c κs = search needs
+
 returns-5 : tie.Need-returns-5
 unfolding finishIn
 returns-5 c =
@@ -106,20 +106,4 @@ returns-5 c =
 pub finish-step-spec : {M : Type 1} → statement M
 finish-step-spec =
     tie.close
-    (tie.spec
-    is-sound-requires
-    refused-requires
-    returns
-    enum-told
-    refused-requires-2
-    enum-told-2
-    refused-requires-3
-    enum-told-3
-    last-requires
-    enum-told-4
-    refused-requires-4
-    returns-2
-    returns-3
-    same-length
-    returns-4
-    returns-5)
+    (tie.spec is-sound-requires refused-requires returns enum-told refused-requires-2 returns-2 enum-told-2 refused-requires-3 returns-3 enum-told-3 last-requires same-length returns-4 enum-told-4 refused-requires-4 returns-5)

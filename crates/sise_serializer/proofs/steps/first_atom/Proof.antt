@@ -24,12 +24,6 @@ place-requires c κs = search needs
 enum-known-at : tie.Need-enum-known-at
 enum-known-at c = search needs
 
-enum-told : tie.Need-enum-told
-enum-told c = search needs
-
-refused-requires : tie.Need-refused-requires
-refused-requires c κs = search needs
-
 same-length : tie.Need-same-length
 same-length c = search needs
 
@@ -40,6 +34,12 @@ returns c =
     let pl = c .before .before .before .before .before in
     let a = start pl .args in
     placed-steps (a .progress) flags (a .commit) (a .buf .now) (firstAtom (joined (a .progress) flags) (a .atom .now)) (pl .place .ensures) (c .before .at .given .1) (λ x. rw (x, add-zero))
+
+enum-told : tie.Need-enum-told
+enum-told c = search needs
+
+refused-requires : tie.Need-refused-requires
+refused-requires c κs = search needs
 
 same-length-2 : tie.Need-same-length-2
 same-length-2 c = search needs
@@ -55,14 +55,4 @@ returns-2 c =
 pub first-atom-spec : {M : Type 1} → statement M
 first-atom-spec =
     tie.close
-    (tie.spec
-    slice-aggregate-place
-    slice-aggregate-place-2
-    place-requires
-    enum-known-at
-    enum-told
-    refused-requires
-    same-length
-    returns
-    same-length-2
-    returns-2)
+    (tie.spec slice-aggregate-place slice-aggregate-place-2 place-requires enum-known-at same-length returns enum-told refused-requires same-length-2 returns-2)

@@ -30,12 +30,6 @@ enum-known-at c = search needs
 element-write-flags : tie.Need-element-write-flags
 element-write-flags c = search needs
 
-enum-told : tie.Need-enum-told
-enum-told c = search needs
-
-refused-requires : tie.Need-refused-requires
-refused-requires c κs = search needs
-
 same-length : tie.Need-same-length
 same-length c = search needs
 
@@ -45,6 +39,12 @@ returns c =
     let pl = c .before .before .before .before .before in
     let a = start pl .args in
     placed-steps (a .progress) (a .flags .now) (a .commit) (a .buf .now) (firstList (joined (a .progress) (a .flags .now))) (pl .place .ensures) (c .before .at .given .1) (λ x. rw (x, add-zero))
+
+enum-told : tie.Need-enum-told
+enum-told c = search needs
+
+refused-requires : tie.Need-refused-requires
+refused-requires c κs = search needs
 
 same-length-2 : tie.Need-same-length-2
 same-length-2 c = search needs
@@ -59,16 +59,4 @@ returns-2 c =
 pub first-list-spec : {M : Type 1} → statement M
 first-list-spec =
     tie.close
-    (tie.spec
-    slice-aggregate-place
-    slice-aggregate-place-2
-    slice-aggregate-place-3
-    place-requires
-    enum-known-at
-    element-write-flags
-    enum-told
-    refused-requires
-    same-length
-    returns
-    same-length-2
-    returns-2)
+    (tie.spec slice-aggregate-place slice-aggregate-place-2 slice-aggregate-place-3 place-requires enum-known-at element-write-flags same-length returns enum-told refused-requires same-length-2 returns-2)

@@ -18,18 +18,6 @@ start c = c .before .before .before .before
 on-new-line-requires : tie.Need-on-new-line-requires
 on-new-line-requires c κs = search needs
 
-slice-aggregate-in-line : tie.Need-slice-aggregate-in-line
-slice-aggregate-in-line c = search needs
-
-in-line-requires : tie.Need-in-line-requires
-in-line-requires c κs = search needs
-
-slice-aggregate-in-line-2 : tie.Need-slice-aggregate-in-line-2
-slice-aggregate-in-line-2 c = search needs
-
-in-line-requires-2 : tie.Need-in-line-requires-2
-in-line-requires-2 c κs = search needs
-
 same-length : tie.Need-same-length
 same-length c = search needs
 
@@ -41,6 +29,12 @@ returns c =
     let a = st .args in
     rw (inner-is _ (whole st) (a .token .now) (a .is-list) (a .break-line-at) (gap-new-line (whole st) (a .break-line-at) (arm .if1 .taken))) (it .on-new-line .ensures)
 
+slice-aggregate-in-line : tie.Need-slice-aggregate-in-line
+slice-aggregate-in-line c = search needs
+
+in-line-requires : tie.Need-in-line-requires
+in-line-requires c κs = search needs
+
 same-length-2 : tie.Need-same-length-2
 same-length-2 c = search needs
 
@@ -51,6 +45,12 @@ returns-2 c =
     let st = start (arm .before .before) in
     let a = st .args in
     rw (nothing-is _ (whole st) (a .token .now) (a .is-list) (a .break-line-at) (gap-nothing (whole st) (a .break-line-at) (arm .before .if1 .left) (arm .if2 .taken))) (it .in-line .ensures)
+
+slice-aggregate-in-line-2 : tie.Need-slice-aggregate-in-line-2
+slice-aggregate-in-line-2 c = search needs
+
+in-line-requires-2 : tie.Need-in-line-requires-2
+in-line-requires-2 c κs = search needs
 
 same-length-3 : tie.Need-same-length-3
 same-length-3 c = search needs
@@ -66,15 +66,4 @@ returns-3 c =
 pub inner-spec : {M : Type 1} → statement M
 inner-spec =
     tie.close
-    (tie.spec
-    on-new-line-requires
-    slice-aggregate-in-line
-    in-line-requires
-    slice-aggregate-in-line-2
-    in-line-requires-2
-    same-length
-    returns
-    same-length-2
-    returns-2
-    same-length-3
-    returns-3)
+    (tie.spec on-new-line-requires same-length returns slice-aggregate-in-line in-line-requires same-length-2 returns-2 slice-aggregate-in-line-2 in-line-requires-2 same-length-3 returns-3)

@@ -35,8 +35,8 @@ place-requires c κs = search needs
 enum-known-at : tie.Need-enum-known-at
 enum-known-at c = search needs
 
-add-t21 : tie.Need-add-t21
-add-t21 c =
+add-t20 : tie.Need-add-t20
+add-t20 c =
     let one = c .before .before .before .before .before .before .before .before .before .before in
     omega (arith, one .one-if .ensures, one-at-most (start one .args .insert-line-break))
 
@@ -76,16 +76,4 @@ returns-2 c =
 pub last-spec : {M : Type 1} → statement M
 last-spec =
     tie.close
-    (tie.spec
-    one-if-requires
-    slice-aggregate-place
-    slice-aggregate-place-2
-    place-requires
-    enum-known-at
-    add-t21
-    enum-told
-    refused-requires
-    same-length
-    returns
-    same-length-2
-    returns-2)
+    (tie.spec one-if-requires slice-aggregate-place slice-aggregate-place-2 place-requires enum-known-at add-t20 same-length returns enum-told refused-requires same-length-2 returns-2)

@@ -52,12 +52,6 @@ add-indents c = search needs
 added-requires : tie.Need-added-requires
 added-requires c κs = search needs
 
-enum-told : tie.Need-enum-told
-enum-told c = search needs
-
-refused-requires : tie.Need-refused-requires
-refused-requires c κs = search needs
-
 same-length : tie.Need-same-length
 same-length c = search needs
 
@@ -68,6 +62,12 @@ returns c =
     let pl = at .before .before .before .before in
     let a = start pl .args in
     placed-steps (a .progress) (a .flags .now) (a .commit) (a .buf .now) (piece (start pl)) (pl .place .ensures) (at .at .given .1) (λ x. rw x at (c .added .ensures))
+
+enum-told : tie.Need-enum-told
+enum-told c = search needs
+
+refused-requires : tie.Need-refused-requires
+refused-requires c κs = search needs
 
 same-length-2 : tie.Need-same-length-2
 same-length-2 c = search needs
@@ -82,19 +82,4 @@ returns-2 c =
 pub on-new-line-spec : {M : Type 1} → statement M
 on-new-line-spec =
     tie.close
-    (tie.spec
-    place-requires
-    enum-known-at
-    sub-flags
-    element-write-flags
-    mul-line
-    add-line
-    add-breaks
-    add-indents
-    added-requires
-    enum-told
-    refused-requires
-    same-length
-    returns
-    same-length-2
-    returns-2)
+    (tie.spec place-requires enum-known-at sub-flags element-write-flags mul-line add-line add-breaks add-indents added-requires same-length returns enum-told refused-requires same-length-2 returns-2)

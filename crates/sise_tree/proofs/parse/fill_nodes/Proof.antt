@@ -19,40 +19,45 @@ abbrev μ-loop : tie.MeasureT-loop
 
 returns : tie.Need-returns Inv-loop μ-loop
 returns c =
-    let w = c .before .before .before in
+    let v = c .before .before in
+    let w = v .before .before in
     let (n, q, k) = w .before .before .before .before .pre in
-    never-refused _ _ _ k (w .before .loop .inv .1) (called (w .next-item .result) (w .next-item .ensures) (c .enum-told .given .1))
+    never-refused _ _ _ k (w .before .loop .inv .1) (called (w .next-item .result) (w .next-item .ensures) (v .renewed .ensures) (c .enum-told .given .1))
 
 put-item-requires : tie.Need-put-item-requires Inv-loop μ-loop
 put-item-requires c κs =
-    let w = c .before .before .before .before .before in
+    let v = c .before .before .before .before in
+    let w = v .before .before in
     let (n, q, k) = w .before .before .before .before .pre in
     let h = w .before .loop .inv .1 in
-    (_, _, h .shows, item-fits _ _ _ k h (called (w .next-item .result) (w .next-item .ensures) (c .before .before .answer .given .1)))
+    (_, _, h .shows, item-fits _ _ _ k h (called (w .next-item .result) (w .next-item .ensures) (v .renewed .ensures) (c .before .before .answer .given .1)))
 
 returns-2 : tie.Need-returns-2 Inv-loop μ-loop
 returns-2 c =
-    let w = c .before .before .before .before .before .before .before .before .before .before in
+    let v = c .before .before .before .before .before .before .before .before .before in
+    let w = v .before .before in
     let p = c .before .before .before .before in
     let (n, q, k) = w .before .before .before .before .pre in
     let h = w .before .loop .inv .1 in
-    let e = called (w .next-item .result) (w .next-item .ensures) (p .before .before .before .answer .given .1) in
+    let e = called (w .next-item .result) (w .next-item .ensures) (v .renewed .ensures) (p .before .before .before .answer .given .1) in
     fill-ends _ _ _ k h e (p .put-item .ensures _ _ (h .shows) (item-fits _ _ _ k h e)) (c .if1 .taken)
 
 loop-less : tie.Need-loop-less Inv-loop μ-loop
 loop-less c =
-    let w = c .before .before .before .before .before .before .before .before .before .before in
+    let v = c .before .before .before .before .before .before .before .before .before in
+    let w = v .before .before in
     let p = c .before .before .before .before in
-    let t = took _ (w .before .loop .r) (called (w .next-item .result) (w .next-item .ensures) (p .before .before .before .answer .given .1)) in
+    let t = took _ (w .before .loop .r) (called (w .next-item .result) (w .next-item .ensures) (v .renewed .ensures) (p .before .before .before .answer .given .1)) in
     omega (arith, t .moves, t .within)
 
 loop-again : tie.Need-loop-again Inv-loop μ-loop
 loop-again c =
-    let w = c .before .before .before .before .before .before .before .before .before .before in
+    let v = c .before .before .before .before .before .before .before .before .before in
+    let w = v .before .before in
     let p = c .before .before .before .before in
     let (n, q, k) = w .before .before .before .before .pre in
     let h = w .before .loop .inv .1 in
-    let e = called (w .next-item .result) (w .next-item .ensures) (p .before .before .before .answer .given .1) in
+    let e = called (w .next-item .result) (w .next-item .ensures) (v .renewed .ensures) (p .before .before .before .answer .given .1) in
     fill-goes _ _ _ k h e (p .put-item .ensures _ _ (h .shows) (item-fits _ _ _ k h e)) (c .if1 .left) (p .put-item .kept .0)
 
 pub fill-nodes-spec : {M : Type 1} → statement M
@@ -63,13 +68,14 @@ fill-nodes-spec =
     μ-loop
     (λ c. (top, fills-none _ _ _))  -- loop-holds
     (λ c κs. search needs)  -- next-item-requires
+    (λ c κs. search needs)  -- renewed-requires
     (λ c. search needs)  -- enum-known-answer
     (λ c. search needs)  -- enum-told
-    (λ c. c .before .before .before .before .loop .inv .1 .same)  -- same-length
+    (λ c. c .before .before .before .before .before .loop .inv .1 .same)  -- same-length
     returns
     put-item-requires
     -- same-length-2
-    (λ c. c .before .before .before .before .put-item .kept .0 ∙ c .before .before .before .before .before .before .before .before .before .before .before .loop .inv .1 .same)
+    (λ c. c .before .before .before .before .put-item .kept .0 ∙ c .before .before .before .before .before .before .before .before .before .before .before .before .loop .inv .1 .same)
     returns-2
     loop-less
     loop-again)

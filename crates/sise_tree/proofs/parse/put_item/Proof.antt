@@ -1,22 +1,24 @@
 -- Each arm is one law of the filling's state.
 -- Assumes nothing.
 use native.Mathlib.Omega.{arith}
-use mathlib.Core.Path.{_∙_}
 use borrow.Author.Needs.{needs}
-use Rattle.sise_tree.proofs.FillingTurns.{atom-small, atom-room, atom-attachable, atom-turns, start-room, start-turns, end-closable, end-turns}
+use Rattle.sise_tree.proofs.FillingTurns.{atom-ends, atom-room, atom-attachable, atom-turns, start-room, start-turns, end-closable, end-turns}
 use Rattle.sise_tree.proofs.parse.put_item.Statement.{statement}
 use Rattle.sise_tree.proofs.parse.put_item.Tie as tie
+
+sub-len : tie.Need-sub-len
+sub-len c = let (w₀, f, h, u) = c .before .before .before .before .pre in atom-ends h (c .before .item .given .1) u .0
 
 cast-put : tie.Need-cast-put
 cast-put c =
     let (w₀, f, h, u) = c .before .before .before .before .before .before .pre in
-    let z = atom-small h (c .before .before .before .item .given .1) u in
+    let z = atom-ends h (c .before .before .before .item .given .1) u in
     omega arith
 
 cast-put-2 : tie.Need-cast-put-2
 cast-put-2 c =
     let (w₀, f, h, u) = c .before .before .before .before .before .before .pre in
-    let z = atom-small h (c .before .before .before .item .given .1) u in
+    let z = atom-ends h (c .before .before .before .item .given .1) u in
     omega arith
 
 put-requires : tie.Need-put-requires
@@ -31,25 +33,11 @@ count-child-requires c κs =
     let (w₀, f, h, u) = k .before .before .before .before .before .before .before .pre in
     (f, _, _, atom-attachable h (k .before .before .before .before .item .given .1) u (k .before .wide .ensures .0) (k .put .ensures))
 
-add-t15 : tie.Need-add-t15
-add-t15 c =
-    let k = c .before .before .before .before .before .before in
-    let (w₀, f, h, u) = k .before .before .before .before .before .before .before .pre in
-    let z = atom-room h (k .before .before .before .before .item .given .1) u .1 in
-    omega arith
-
 put-requires-2 : tie.Need-put-requires-2
 put-requires-2 c κs =
     let (w₀, f, h, u) = c .before .before .before .before .before .pre in
     let z = start-room h (c .before .before .enum-told .given .1) u .0 in
     omega (arith, c .wide2 .ensures .0)
-
-add-t22 : tie.Need-add-t22
-add-t22 c =
-    let k = c .before .before .before in
-    let (w₀, f, h, u) = k .before .before .before .before .before .pre in
-    let z = start-room h (k .before .before .enum-told .given .1) u .1 in
-    omega arith
 
 close-list-requires : tie.Need-close-list-requires
 close-list-requires c κs =
@@ -74,17 +62,32 @@ put-item-spec =
     tie.close
     (tie.spec
     (λ c. search needs)  -- enum-known-item
+    sub-len
     (λ c κs. search needs)  -- wide-requires
     cast-put
     cast-put-2
     put-requires
     count-child-requires
-    add-t15
+    -- the sum of the mark after an atom
+    (λ c.
+    let k = c .before .before .before .before .before .before in
+    let (w₀, f, h, u) = k .before .before .before .before .before .before .before .pre in
+    let z = atom-room h (k .before .before .before .before .item .given .1) u .1 in
+    omega arith)
     (λ c. search needs)  -- enum-told
     (λ c κs. search needs)  -- wide-requires-2
     put-requires-2
-    add-t22
-    add-t22  -- add-t23
+    -- the two sums after a list's start
+    (λ c.
+    let k = c .before .before .before in
+    let (w₀, f, h, u) = k .before .before .before .before .before .pre in
+    let z = start-room h (k .before .before .enum-told .given .1) u .1 in
+    omega arith)
+    (λ c.
+    let k = c .before .before .before in
+    let (w₀, f, h, u) = k .before .before .before .before .before .pre in
+    let z = start-room h (k .before .before .enum-told .given .1) u .1 in
+    omega arith)
     (λ c. search needs)  -- enum-told-2
     close-list-requires
     (λ c. search needs)  -- same-length

@@ -1,0 +1,18 @@
+// The words of an item: `L place`, `A place length` or `E place`.
+ghost use Rattle.lines.specs.Put.{PutsItem};
+use crate::put_letter;
+use crate::put_number;
+use sise_parser::ParsedItem;
+
+pub fn put_item(out: &mut [u8], at: usize, item: ParsedItem) -> usize
+    ensures { λ r. ⌜ PutsItem (now (out .entry)) at item r (now (out .exit)) ⌝ }
+{
+    match item {
+        ParsedItem::ListStart { pos } => put_letter(out, at, b'L', pos),
+        ParsedItem::Atom { pos, len } => {
+            let at = put_letter(out, at, b'A', pos);
+            put_number(out, at, len)
+        }
+        ParsedItem::ListEnd { pos } => put_letter(out, at, b'E', pos),
+    }
+}

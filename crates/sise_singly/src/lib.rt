@@ -1,0 +1,24 @@
+// The writer's calls made one at a time, for a program that measures them. It is a library of its own: where two callers share the steps, the compiler
+// joins them into neither, and both are slower.
+use sise_layout::write_calls_singly;
+ghost use lib.ListN.{length};
+ghost use Rattle.sise_serializer.specs.Serializer.{style};
+ghost use Rattle.sise_layout.specs.Calls.{writing};
+ghost use Rattle.sise_layout.specs.Words.{callsOf};
+ghost use Rattle.sise_c.specs.Written.{Writes};
+
+// Does what sise_write_calls of sise_c does by the writer's four methods, which take the whole record and hand it back.
+#[no_mangle]
+pub extern "C" fn sise_write_calls_singly(
+    words: &[u64],
+    atoms: &[u8],
+    line_break: &[u8],
+    indentation: &[u8],
+    buf: &mut [u8],
+    answers: &mut [u64],
+) -> u64
+    ensures { λ r. ⌜ Writes (writing (style (now («line_break» .entry)) (now (indentation .entry))) (now (buf .entry)) (callsOf (now (words .entry)) (now (atoms .entry)) (length (now (answers .entry))))) (now (answers .entry)) r (now (buf .exit)) (now (answers .exit)) ⌝ }
+{
+    let done = write_calls_singly(words, atoms, line_break, indentation, buf, answers);
+    done.serializer.position as u64
+}

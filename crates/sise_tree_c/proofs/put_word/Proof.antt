@@ -1,0 +1,18 @@
+-- `put_word` meets its contract: the position, or the answer is a refusal.
+-- Assumes nothing.
+use Prim.Native.Nat.{ℕ, _+_, _^_}
+use mathlib.Core.Path.{ap, _∙_}
+use borrow.Author.Needs.{needs}
+use Rattle.sise_tree_c.proofs.Refusals.{put-refusal}
+use Rattle.sise_tree_c.proofs.put_word.Statement.{statement}
+use Rattle.sise_tree_c.proofs.put_word.Tie as tie
+
+pub put-word-spec : {M : Type 1} → statement M
+put-word-spec =
+    tie.close
+    (tie.spec
+    (λ c. search needs)  -- enum-known-answer
+    (λ c κs. search needs)  -- number-requires
+    (λ c κs. search needs)  -- refusal-word-requires
+    (λ c. search needs)  -- returns
+    (λ c. c .refusal-word .ensures ∙ ap (λ (n : ℕ). 2 ^ 32 + n) (c .before .number .ensures) ∙ put-refusal _ (c .before .before .before .args .answer) (c .before .before .match .keys2)))  -- returns-2
