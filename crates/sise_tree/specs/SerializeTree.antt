@@ -57,7 +57,7 @@ pub record Writes : Type 0 where
   pub answer : Answer
   pub buffer : List ℕ
 
--- "on a refusal no byte is written and the record stays"
+-- "A refused writer call leaves its record", and writes nothing
 abbrev pub refuse : ℕ → List ℕ → Serializer → Writes
 refuse n buffer w = record { serializer = w; answer = refusedWith n; buffer = buffer }
 
