@@ -1,0 +1,219 @@
+//! The exported calls, each on copies of its slices in guarded memory.
+
+use crate::guard::{Edge, Region};
+
+extern "C" {
+    fn sise_count_items(text: *const u8, text_len: usize) -> u64;
+
+    fn sise_parse_tree(text: *const u8, text_len: usize, table: *mut u32, table_len: usize) -> u64;
+
+    fn sise_index_path(
+        table: *const u32,
+        table_len: usize,
+        text: *const u8,
+        text_len: usize,
+        path: *const u64,
+        path_len: usize,
+    ) -> u64;
+
+    fn sise_serialize_tree(
+        line_break: *const u8,
+        line_break_len: usize,
+        indentation: *const u8,
+        indentation_len: usize,
+        buf: *mut u8,
+        buf_len: usize,
+        text: *const u8,
+        text_len: usize,
+        table: *const u32,
+        table_len: usize,
+        break_line_at: u64,
+    ) -> u64;
+
+    fn sise_write_calls(
+        words: *const u64,
+        words_len: usize,
+        atoms: *const u8,
+        atoms_len: usize,
+        line_break: *const u8,
+        line_break_len: usize,
+        indentation: *const u8,
+        indentation_len: usize,
+        buf: *mut u8,
+        buf_len: usize,
+        answers: *mut u64,
+        answers_len: usize,
+    ) -> u64;
+
+    fn sise_write_calls_singly(
+        words: *const u64,
+        words_len: usize,
+        atoms: *const u8,
+        atoms_len: usize,
+        line_break: *const u8,
+        line_break_len: usize,
+        indentation: *const u8,
+        indentation_len: usize,
+        buf: *mut u8,
+        buf_len: usize,
+        answers: *mut u64,
+        answers_len: usize,
+    ) -> u64;
+}
+
+#[derive(Clone)]
+pub struct Style {
+    pub line_break: Vec<u8>,
+    pub indentation: Vec<u8>,
+}
+
+/// A list of the writer's calls as words, and the answers' words before it runs.
+#[derive(Clone)]
+pub struct Script {
+    pub words: Vec<u64>,
+    pub atoms: Vec<u8>,
+    pub style: Style,
+    pub answers: Vec<u64>,
+}
+
+/// What a list of calls leaves.
+#[derive(PartialEq)]
+pub struct Wrote {
+    pub position: u64,
+    pub buffer: Vec<u8>,
+    pub answers: Vec<u64>,
+}
+
+/// Memory for each slice that a call takes.
+pub struct Calls {
+    pub made: u64,
+    text: Region,
+    words: Region,
+    line_break: Region,
+    indentation: Region,
+    table: Region,
+    filled: Region,
+    buffer: Region,
+    answers: Region,
+}
+
+impl Calls {
+    pub fn new() -> Self {
+        Self {
+            made: 0,
+            text: Region::read_only(),
+            words: Region::read_only(),
+            line_break: Region::read_only(),
+            indentation: Region::read_only(),
+            table: Region::read_only(),
+            filled: Region::writable(),
+            buffer: Region::writable(),
+            answers: Region::writable(),
+        }
+    }
+
+    pub fn count_items(&mut self, text: &[u8], edge: Edge) -> u64 {
+        self.made += 1;
+        let text = self.text.lend(text, edge);
+        // Here and below, the lent slices outlive the call, and no two are of one region.
+        unsafe { sise_count_items(text.first(), text.len()) }
+    }
+
+    /// The answer, and the table after the call.
+    pub fn parse_tree(&mut self, text: &[u8], table: &[u32], edge: Edge) -> (u64, Vec<u32>) {
+        self.made += 1;
+        let text = self.text.lend(text, edge);
+        let table = self.filled.lend(table, edge);
+        let answer =
+            unsafe { sise_parse_tree(text.first(), text.len(), table.first(), table.len()) };
+        (answer, table.values())
+    }
+
+    pub fn index_path(&mut self, text: &[u8], table: &[u32], path: &[u64], edge: Edge) -> u64 {
+        self.made += 1;
+        let text = self.text.lend(text, edge);
+        let table = self.table.lend(table, edge);
+        let path = self.words.lend(path, edge);
+        unsafe {
+            sise_index_path(
+                table.first(),
+                table.len(),
+                text.first(),
+                text.len(),
+                path.first(),
+                path.len(),
+            )
+        }
+    }
+
+    /// The answer, and the buffer after the call.
+    pub fn serialize_tree(
+        &mut self,
+        style: &Style,
+        buffer: &[u8],
+        text: &[u8],
+        table: &[u32],
+        break_line_at: u64,
+        edge: Edge,
+    ) -> (u64, Vec<u8>) {
+        self.made += 1;
+        let line_break = self.line_break.lend(&style.line_break, edge);
+        let indentation = self.indentation.lend(&style.indentation, edge);
+        let buffer = self.buffer.lend(buffer, edge);
+        let text = self.text.lend(text, edge);
+        let table = self.table.lend(table, edge);
+        let answer = unsafe {
+            sise_serialize_tree(
+                line_break.first(),
+                line_break.len(),
+                indentation.first(),
+                indentation.len(),
+                buffer.first(),
+                buffer.len(),
+                text.first(),
+                text.len(),
+                table.first(),
+                table.len(),
+                break_line_at,
+            )
+        };
+        (answer, buffer.values())
+    }
+
+    /// All calls in one, or each by the writer's method of its own.
+    pub fn write(&mut self, script: &Script, buffer: &[u8], singly: bool, edge: Edge) -> Wrote {
+        self.made += 1;
+        let words = self.words.lend(&script.words, edge);
+        let atoms = self.text.lend(&script.atoms, edge);
+        let line_break = self.line_break.lend(&script.style.line_break, edge);
+        let indentation = self.indentation.lend(&script.style.indentation, edge);
+        let buffer = self.buffer.lend(buffer, edge);
+        let answers = self.answers.lend(&script.answers, edge);
+        let run = if singly {
+            sise_write_calls_singly
+        } else {
+            sise_write_calls
+        };
+        let position = unsafe {
+            run(
+                words.first(),
+                words.len(),
+                atoms.first(),
+                atoms.len(),
+                line_break.first(),
+                line_break.len(),
+                indentation.first(),
+                indentation.len(),
+                buffer.first(),
+                buffer.len(),
+                answers.first(),
+                answers.len(),
+            )
+        };
+        Wrote {
+            position,
+            buffer: buffer.values(),
+            answers: answers.values(),
+        }
+    }
+}

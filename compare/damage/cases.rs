@@ -1,0 +1,90 @@
+//! One case of a seed, by its number: a text that is read, a table, or a list of the writer's calls.
+
+use crate::answers::Check;
+use crate::calls::Calls;
+use crate::damage::damage;
+use crate::numbers::{bytes, hostile, len, threshold};
+use crate::random::Random;
+use crate::reading;
+use crate::scripts::script;
+use crate::shown::{tree_shown, writing_shown};
+use crate::styles::style;
+use crate::tables::{table, words};
+use crate::texts::{good, Texts};
+use crate::tree::Tree;
+use crate::writing::Writing;
+
+pub fn run(calls: &mut Calls, texts: &Texts, seed: u64, number: u64) -> Check {
+    let mut random = Random::new(seed << 32 ^ number);
+    match random.below(3) {
+        0 => read(calls, &mut random, texts),
+        1 => held(calls, &mut random, texts),
+        _ => written(calls, &mut random, texts),
+    }
+}
+
+/// A text is read into a table with any words in it, and the table's tree, if it is one, is searched and written.
+fn read(calls: &mut Calls, random: &mut Random, texts: &Texts) -> Check {
+    let text = texts.text(random);
+    let before = words(random, text.len());
+    let mut tree = tree(random, text, before);
+    let read = reading::check(calls, &tree.text, &tree.table);
+    tree.table = read.map_err(|rule| format!("{rule}; {}", tree_shown(&tree)))?;
+    tree.check(calls)
+        .map_err(|rule| format!("{rule}; {}", tree_shown(&tree)))
+}
+
+/// Any table over any text.
+fn held(calls: &mut Calls, random: &mut Random, texts: &Texts) -> Check {
+    let text = if random.percent(60) {
+        good(random)
+    } else {
+        texts.text(random)
+    };
+    let table = table(random, calls, &text);
+    let mut tree = tree(random, text, table);
+    if random.percent(10) {
+        damage(random, &mut tree.text);
+    }
+    tree.check(calls)
+        .map_err(|rule| format!("{rule}; {}", tree_shown(&tree)))
+}
+
+fn written(calls: &mut Calls, random: &mut Random, texts: &Texts) -> Check {
+    let script = script(random, texts);
+    let room = len(random);
+    let writing = Writing {
+        script,
+        buffer: bytes(random, room),
+    };
+    writing
+        .check(calls)
+        .map_err(|rule| format!("{rule}; {}", writing_shown(&writing)))
+}
+
+fn tree(random: &mut Random, text: Vec<u8>, table: Vec<u32>) -> Tree {
+    let room = len(random);
+    Tree {
+        text,
+        table,
+        paths: vec![Vec::new(), path(random), path(random), path(random)],
+        style: style(random),
+        buffer: bytes(random, room),
+        break_line_at: threshold(random),
+    }
+}
+
+/// Mostly small steps; deep along first children, sometimes.
+fn path(random: &mut Random) -> Vec<u64> {
+    let longest = if random.percent(5) { 300 } else { 5 };
+    let widest = random.pick(&[1, 3, 9]);
+    let strange = random.pick(&[0, 0, 20]);
+    let step = |random: &mut Random| {
+        if random.percent(strange) {
+            hostile(random, 4)
+        } else {
+            random.below(widest) as u64
+        }
+    };
+    (0..random.below(longest)).map(|_| step(random)).collect()
+}

@@ -1,0 +1,83 @@
+//! `sise_count_items` and `sise_parse_tree`.
+
+use crate::answers::{ensure, only_first, refusal, refused, twice, Check};
+use crate::calls::Calls;
+use crate::forms::{holds_tree, items};
+
+/// A text's refusals from a fresh reader; 12 comes only after a list start that was read before.
+const OF_TEXT: [u64; 7] = [1, 2, 3, 4, 5, 6, 8];
+
+/// Reads the text into tables of several lengths, and gives what the call left of this one.
+pub fn check(calls: &mut Calls, text: &[u8], before: &[u32]) -> Check<Vec<u32>> {
+    // "A text of n bytes has n nodes at most."
+    let (whole, tree) = parsed(calls, text, &vec![0; 4 * text.len()])?;
+    let count = twice(|edge| calls.count_items(text, edge))?;
+    ensure(
+        count <= text.len() as u64,
+        "count_items: no more items than bytes",
+    )?;
+    let (answer, after) = parsed(calls, text, before)?;
+    if refusal(whole).is_some() {
+        ensure(
+            refusal(whole) != Some(14),
+            "parse_tree: four words a byte are enough",
+        )?;
+        ensure(
+            answer == whole,
+            "parse_tree: a text's refusal whatever the table",
+        )?;
+        return Ok(after);
+    }
+    let tree = &tree[..4 * whole as usize];
+    ensure(count == items(tree), "count_items: the tree's items")?;
+    let fits = tree.len() <= before.len();
+    ensure(
+        answer == if fits { whole } else { refused(14) },
+        "parse_tree: 14 by the length alone",
+    )?;
+    ensure(
+        !fits || after.starts_with(tree),
+        "parse_tree: the same tree in any table",
+    )?;
+    exact(calls, text, tree)?;
+    Ok(after)
+}
+
+/// A table of the tree's length, and one a word shorter.
+fn exact(calls: &mut Calls, text: &[u8], tree: &[u32]) -> Check {
+    let mut before = vec![u32::MAX; tree.len()];
+    let (_, full) = parsed(calls, text, &before)?;
+    ensure(full == tree, "parse_tree: exactly full")?;
+    before.pop();
+    let (short, _) = parsed(calls, text, &before)?;
+    ensure(short == refused(14), "parse_tree: one word short")
+}
+
+/// One call, and what holds after it.
+fn parsed(calls: &mut Calls, text: &[u8], before: &[u32]) -> Check<(u64, Vec<u32>)> {
+    let (answer, after) = twice(|edge| calls.parse_tree(text, before, edge))?;
+    if let Some(number) = refusal(answer) {
+        ensure(
+            number == 14 || OF_TEXT.contains(&number),
+            "parse_tree: a refusal of the text, or 14",
+        )?;
+        ensure(
+            after == before,
+            "parse_tree: refused, the words are as before",
+        )?;
+    } else {
+        ensure(
+            only_first(before, &after, 4 * answer),
+            "parse_tree: the words past the tree are as before",
+        )?;
+        ensure(
+            after.get(3).is_some_and(|&span| u64::from(span) == answer),
+            "parse_tree: the nodes answered",
+        )?;
+        ensure(
+            holds_tree(&after, text.len()),
+            "parse_tree: the table holds a tree",
+        )?;
+    }
+    Ok((answer, after))
+}

@@ -1,0 +1,83 @@
+//! `sise_index_path` and `sise_serialize_tree` on any table.
+
+use crate::answers::{ensure, only_first, refusal, refused, twice, Check};
+use crate::calls::{Calls, Style};
+use crate::forms::{holds_tree, node_at};
+
+pub struct Tree {
+    pub text: Vec<u8>,
+    pub table: Vec<u32>,
+    pub paths: Vec<Vec<u64>>,
+    pub style: Style,
+    pub buffer: Vec<u8>,
+    pub break_line_at: u64,
+}
+
+impl Tree {
+    pub fn check(&self, calls: &mut Calls) -> Check {
+        let holds = holds_tree(&self.table, self.text.len());
+        self.check_paths(calls, holds)?;
+        let (answer, written) = self.serialized(calls, &self.buffer)?;
+        ensure(
+            (answer == refused(15)) != holds,
+            "serialize_tree: 15 where there is no tree",
+        )?;
+        if refusal(answer).is_none() {
+            self.check_rooms(calls, &written[..answer as usize])?;
+        }
+        Ok(())
+    }
+
+    fn check_paths(&self, calls: &mut Calls, holds: bool) -> Check {
+        for path in &self.paths {
+            let expected = if holds {
+                node_at(&self.table, path).unwrap_or(refused(16))
+            } else {
+                refused(15)
+            };
+            let answer = twice(|edge| calls.index_path(&self.text, &self.table, path, edge))?;
+            ensure(answer == expected, "index_path: the node, 15 or 16")?;
+        }
+        Ok(())
+    }
+
+    /// A buffer that is exactly full, and one a byte shorter.
+    fn check_rooms(&self, calls: &mut Calls, text: &[u8]) -> Check {
+        let mut buffer = vec![0; text.len()];
+        let (_, full) = self.serialized(calls, &buffer)?;
+        ensure(full == text, "serialize_tree: exactly full")?;
+        buffer.pop();
+        let (short, _) = self.serialized(calls, &buffer)?;
+        ensure(short == refused(22), "serialize_tree: one byte short")
+    }
+
+    /// One call, and what holds after it.
+    fn serialized(&self, calls: &mut Calls, before: &[u8]) -> Check<(u64, Vec<u8>)> {
+        let Self {
+            text,
+            table,
+            style,
+            break_line_at,
+            ..
+        } = self;
+        let (answer, after) =
+            twice(|edge| calls.serialize_tree(style, before, text, table, *break_line_at, edge))?;
+        if let Some(number) = refusal(answer) {
+            ensure(
+                [15, 17, 21, 22].contains(&number),
+                "serialize_tree: 15, 17, 21 or 22",
+            )?;
+            ensure(
+                after == before,
+                "serialize_tree: refused, the bytes are as before",
+            )?;
+        } else {
+            ensure(answer > 0, "serialize_tree: something is written")?;
+            ensure(
+                only_first(before, &after, answer),
+                "serialize_tree: the bytes past the text are as before",
+            )?;
+        }
+        Ok((answer, after))
+    }
+}
