@@ -3,9 +3,12 @@
 
 extern crate alloc;
 
+#[path = "../exported.rs"]
+mod exported;
 mod trees;
 mod writing;
 
+use exported::sise_count_items;
 use std::time::Instant;
 use trees::Trees;
 use writing::Writing;
@@ -40,10 +43,6 @@ pub use parser::{ParseError, ParsedItem, Parser};
 pub use serializer::Serializer;
 pub use tree_node::TreeNode;
 pub use util::{check_atom, is_atom_chr, is_atom_string_chr};
-
-extern "C" {
-    fn sise_count_items(text: *const u8, len: usize) -> u64;
-}
 
 fn library_items(text: &str) -> u64 {
     // The text outlives the call, which reads it and keeps nothing.
@@ -85,8 +84,12 @@ fn least(text: &str) -> (f64, f64) {
     assert_eq!(library_items(text), crate_items(text));
     let mut best = (f64::MAX, f64::MAX);
     for _ in 0..ROUNDS {
-        best.0 = best.0.min(seconds(|| library_items(std::hint::black_box(text))));
-        best.1 = best.1.min(seconds(|| crate_items(std::hint::black_box(text))));
+        best.0 = best
+            .0
+            .min(seconds(|| library_items(std::hint::black_box(text))));
+        best.1 = best
+            .1
+            .min(seconds(|| crate_items(std::hint::black_box(text))));
     }
     best
 }
@@ -103,7 +106,11 @@ fn typical(size: usize) -> String {
 fn row(name: &str, text: &str) {
     let (library, original) = least(text);
     let rate = text.len() as f64 / library / 1e6;
-    println!("{name:<28} {:>10} bytes {rate:>8.0} MB/s {:>8.2}", text.len(), original / library);
+    println!(
+        "{name:<28} {:>10} bytes {rate:>8.0} MB/s {:>8.2}",
+        text.len(),
+        original / library
+    );
 }
 
 /// The items of a text written again, all at one threshold.
@@ -119,7 +126,11 @@ fn written(name: &str, text: &str, threshold: usize) {
     let (library, singly, original) = best;
     let calls = writing.calls();
     let time = |seconds: f64| seconds / calls as f64 * 1e9;
-    print!("{name:<28} {calls:>10} calls {:>8.0} ns/call {:>7.2}", time(library), original / library);
+    print!(
+        "{name:<28} {calls:>10} calls {:>8.0} ns/call {:>7.2}",
+        time(library),
+        original / library
+    );
     println!(" {:>8.0} ns/call {:>7.2}", time(singly), original / singly);
 }
 
@@ -133,7 +144,11 @@ fn tree_read(name: &str, text: &str) {
     }
     let (library, original) = best;
     let rate = text.len() as f64 / library / 1e6;
-    println!("{name:<28} {:>10} bytes {rate:>8.0} MB/s {:>8.2}", text.len(), original / library);
+    println!(
+        "{name:<28} {:>10} bytes {rate:>8.0} MB/s {:>8.2}",
+        text.len(),
+        original / library
+    );
 }
 
 /// A text's tree written again.
@@ -148,25 +163,42 @@ fn tree_written(name: &str, text: &str, threshold: usize) {
     let (library, original) = best;
     let written = trees.write_by_crate(threshold);
     let rate = written as f64 / library / 1e6;
-    println!("{name:<28} {written:>10} bytes {rate:>8.0} MB/s {:>8.2}", original / library);
+    println!(
+        "{name:<28} {written:>10} bytes {rate:>8.0} MB/s {:>8.2}",
+        original / library
+    );
 }
 
 /// A path through a text's tree.
 fn tree_indexed(name: &str, text: &str, path: &[usize]) {
     let trees = Trees::new(text);
     let words: Vec<u64> = path.iter().map(|&step| step as u64).collect();
-    assert!(trees.index_by_crate(path).is_some() && trees.index_by_library(&words) < text.len() as u64);
+    assert!(
+        trees.index_by_crate(path).is_some() && trees.index_by_library(&words) < text.len() as u64
+    );
     let mut best = (f64::MAX, f64::MAX);
     for _ in 0..ROUNDS {
-        best.0 = best.0.min(seconds(|| trees.index_by_library(std::hint::black_box(&words))));
-        best.1 = best.1.min(seconds(|| trees.index_by_crate(std::hint::black_box(path)).is_some()));
+        best.0 = best.0.min(seconds(|| {
+            trees.index_by_library(std::hint::black_box(&words))
+        }));
+        best.1 = best.1.min(seconds(|| {
+            trees.index_by_crate(std::hint::black_box(path)).is_some()
+        }));
     }
     let (library, original) = best;
-    println!("{name:<28} {:>10} bytes {:>8.1} us {:>10.4}", text.len(), library * 1e6, original / library);
+    println!(
+        "{name:<28} {:>10} bytes {:>8.1} us {:>10.4}",
+        text.len(),
+        library * 1e6,
+        original / library
+    );
 }
 
 fn trees(size: usize) {
-    println!("{:<28} {:>16} {:>13} {:>8}", "trees", "", "library", "ratio");
+    println!(
+        "{:<28} {:>16} {:>13} {:>8}",
+        "trees", "", "library", "ratio"
+    );
     let profile = typical(size);
     let flat = list_of("x 12 -0.5 ", size);
     let deep = list_of(&format!("{}{} ", "(".repeat(150), ")".repeat(150)), size);
@@ -184,17 +216,35 @@ fn trees(size: usize) {
 
 fn main() {
     const SIZE: usize = 1_000_000;
-    println!("{:<28} {:>16} {:>13} {:>8}", "reading", "", "library", "ratio");
+    println!(
+        "{:<28} {:>16} {:>13} {:>8}",
+        "reading", "", "library", "ratio"
+    );
     row("typical profile", &typical(SIZE));
     row("short atoms", &list_of("x 12 -0.5 ", SIZE));
-    row("long atoms", &list_of(&format!("{} ", "travel-limit.".repeat(100)), SIZE));
-    row("long strings", &list_of(&format!("\"{}\" ", "focus (mm) \\\" ".repeat(100)), SIZE));
-    row("deep nesting", &format!("{}{}", "(".repeat(SIZE / 2), ")".repeat(SIZE / 2)));
-    row("comments", &list_of("; the stage's own limits, in millimetres\n", SIZE));
+    row(
+        "long atoms",
+        &list_of(&format!("{} ", "travel-limit.".repeat(100)), SIZE),
+    );
+    row(
+        "long strings",
+        &list_of(&format!("\"{}\" ", "focus (mm) \\\" ".repeat(100)), SIZE),
+    );
+    row(
+        "deep nesting",
+        &format!("{}{}", "(".repeat(SIZE / 2), ")".repeat(SIZE / 2)),
+    );
+    row(
+        "comments",
+        &list_of("; the stage's own limits, in millimetres\n", SIZE),
+    );
     for size in [10_000, 100_000, 1_000_000, 16_000_000] {
         row("typical profile, growing", &typical(size));
     }
-    println!("{:<28} {:>16} {:>16} {:>7} {:>16} {:>7}", "writing", "", "library", "ratio", "one at a time", "ratio");
+    println!(
+        "{:<28} {:>16} {:>16} {:>7} {:>16} {:>7}",
+        "writing", "", "library", "ratio", "one at a time", "ratio"
+    );
     let profile = typical(SIZE);
     written("typical profile, broken", &profile, 0);
     written("typical profile, at 80", &profile, 80);

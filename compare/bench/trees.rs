@@ -1,37 +1,11 @@
 //! Trees: the same text by the library's tree calls and by the crate's.
 
+use crate::exported::{sise_index_path, sise_parse_tree, sise_serialize_tree};
 use crate::parse_tree::parse_tree;
 use crate::serialize_tree::serialize_tree;
 use crate::serializer::Serializer;
 use crate::writing::STYLE;
 use crate::{Parser, TreeNode};
-
-extern "C" {
-    fn sise_parse_tree(text: *const u8, text_len: usize, table: *mut u32, table_len: usize) -> u64;
-
-    fn sise_serialize_tree(
-        line_break: *const u8,
-        line_break_len: usize,
-        indentation: *const u8,
-        indentation_len: usize,
-        buf: *mut u8,
-        buf_len: usize,
-        text: *const u8,
-        text_len: usize,
-        table: *const u32,
-        table_len: usize,
-        break_line_at: u64,
-    ) -> u64;
-
-    fn sise_index_path(
-        table: *const u32,
-        table_len: usize,
-        text: *const u8,
-        text_len: usize,
-        path: *const u64,
-        path_len: usize,
-    ) -> u64;
-}
 
 /// A text's tree on both sides, and the memory that they write into.
 pub struct Trees<'a> {

@@ -1,38 +1,8 @@
 //! Writing: the same list of calls by the library, all in one or each by its method, and by the crate's `Serializer`.
 
+use crate::exported::{sise_write_calls, sise_write_calls_singly};
 use crate::parser::{ParsedItem, Parser};
 use crate::serializer::{Serializer, SerializerStyle};
-
-extern "C" {
-    fn sise_write_calls(
-        words: *const u64,
-        words_len: usize,
-        atoms: *const u8,
-        atoms_len: usize,
-        line_break: *const u8,
-        line_break_len: usize,
-        indentation: *const u8,
-        indentation_len: usize,
-        buf: *mut u8,
-        buf_len: usize,
-        answers: *mut u64,
-        answers_len: usize,
-    ) -> u64;
-    fn sise_write_calls_singly(
-        words: *const u64,
-        words_len: usize,
-        atoms: *const u8,
-        atoms_len: usize,
-        line_break: *const u8,
-        line_break_len: usize,
-        indentation: *const u8,
-        indentation_len: usize,
-        buf: *mut u8,
-        buf_len: usize,
-        answers: *mut u64,
-        answers_len: usize,
-    ) -> u64;
-}
 
 pub const STYLE: SerializerStyle<'static> = SerializerStyle {
     line_break: "\n",
@@ -111,7 +81,11 @@ impl<'a> Writing<'a> {
 
     /// All calls in one, or each by the writer's method of its own.
     pub fn by_library(&mut self, singly: bool) -> u64 {
-        let run = if singly { sise_write_calls_singly } else { sise_write_calls };
+        let run = if singly {
+            sise_write_calls_singly
+        } else {
+            sise_write_calls
+        };
         // All six slices outlive the call, and the two that it writes are borrowed by nobody else.
         unsafe {
             run(

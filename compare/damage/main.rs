@@ -7,6 +7,8 @@ mod cases;
 #[path = "../src/damage.rs"]
 mod damage;
 mod deep;
+#[path = "../exported.rs"]
+mod exported;
 mod forms;
 mod guard;
 mod limits;

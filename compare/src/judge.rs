@@ -8,7 +8,7 @@ use crate::options::Options;
 use crate::original::{Masked, Original};
 use crate::reading::{Case, Reading};
 use crate::replay::Judges;
-use crate::script::{put_answers, put_case, CASE};
+use crate::script::{put_answers, put_case};
 
 #[derive(Default)]
 pub struct Judge {
@@ -55,15 +55,12 @@ impl Judge {
 }
 
 impl Judges<Case> for Judge {
-    fn script_and_answers(&mut self, cases: &[Case]) -> (Vec<u8>, Vec<u8>) {
-        let mut script = Vec::new();
-        let mut answers = Vec::new();
-        for case in cases {
-            put_case(&mut script, case);
-            answers.extend_from_slice(CASE);
-            put_answers(&mut answers, &self.expected(case));
-        }
-        (script, answers)
+    fn put_script(&self, script: &mut Vec<u8>, case: &Case) {
+        put_case(script, case);
+    }
+
+    fn lines(&mut self, case: &Case) -> Vec<u8> {
+        lines(&self.expected(case))
     }
 }
 

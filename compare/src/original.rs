@@ -29,9 +29,7 @@ impl<'a> Original<'a> {
     /// `None` where the crate panics.
     pub fn parse_tree(&mut self) -> Option<Result<TreeNode, Refusal>> {
         let parse = AssertUnwindSafe(|| crate::parse_tree(&mut self.parser));
-        catch_unwind(parse)
-            .ok()
-            .map(|found| found.map_err(refusal))
+        catch_unwind(parse).ok().map(|found| found.map_err(refusal))
     }
 }
 

@@ -10,9 +10,23 @@ use std::process::{Command, Output, Stdio};
 
 const LARGEST_SCRIPT: usize = 1_000_000;
 
-/// What knows the script of cases and what replay has to print for it.
+/// What knows the script of a case and what replay has to print for it.
 pub trait Judges<Case> {
-    fn script_and_answers(&mut self, cases: &[Case]) -> (Vec<u8>, Vec<u8>);
+    fn put_script(&self, script: &mut Vec<u8>, case: &Case);
+
+    /// The lines after the case's first.
+    fn lines(&mut self, case: &Case) -> Vec<u8>;
+
+    fn script_and_answers(&mut self, cases: &[Case]) -> (Vec<u8>, Vec<u8>) {
+        let mut script = Vec::new();
+        let mut answers = Vec::new();
+        for case in cases {
+            self.put_script(&mut script, case);
+            answers.extend_from_slice(CASE);
+            answers.extend_from_slice(&self.lines(case));
+        }
+        (script, answers)
+    }
 }
 
 /// Runs replay over all cases, as many at a time as a script takes; `size` answers how much of a script a case takes at most.

@@ -5,7 +5,7 @@ use crate::model;
 use crate::original::{Masked, Original};
 use crate::reading::{Reader, Refusal};
 use crate::replay::Judges;
-use crate::script::{put_record, refused, CASE};
+use crate::script::{put_record, refused};
 use crate::serializer::{Serializer, SerializerStyle};
 use crate::tree_case::{put_case, TreeCase};
 use crate::tree_model::{
@@ -199,15 +199,12 @@ impl TreeJudge {
 }
 
 impl Judges<TreeCase> for TreeJudge {
-    fn script_and_answers(&mut self, cases: &[TreeCase]) -> (Vec<u8>, Vec<u8>) {
-        let mut script = Vec::new();
-        let mut answers = Vec::new();
-        for case in cases {
-            put_case(&mut script, case);
-            answers.extend_from_slice(CASE);
-            answers.extend_from_slice(&self.expected(case));
-        }
-        (script, answers)
+    fn put_script(&self, script: &mut Vec<u8>, case: &TreeCase) {
+        put_case(script, case);
+    }
+
+    fn lines(&mut self, case: &TreeCase) -> Vec<u8> {
+        self.expected(case)
     }
 }
 

@@ -2,7 +2,6 @@
 
 use crate::differences::{Described, Differences};
 use crate::replay::Judges;
-use crate::script::CASE;
 use crate::serializer::{Kept, Serializer, SerializerStyle};
 use crate::writer_model::{Model, Phase};
 use crate::writing::{put_case, Call, WriterCase};
@@ -94,15 +93,12 @@ impl WriterJudge {
 }
 
 impl Judges<WriterCase> for WriterJudge {
-    fn script_and_answers(&mut self, cases: &[WriterCase]) -> (Vec<u8>, Vec<u8>) {
-        let mut script = Vec::new();
-        let mut answers = Vec::new();
-        for case in cases {
-            put_case(&mut script, case);
-            answers.extend_from_slice(CASE);
-            answers.extend_from_slice(&self.expected(case));
-        }
-        (script, answers)
+    fn put_script(&self, script: &mut Vec<u8>, case: &WriterCase) {
+        put_case(script, case);
+    }
+
+    fn lines(&mut self, case: &WriterCase) -> Vec<u8> {
+        self.expected(case)
     }
 }
 

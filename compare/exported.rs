@@ -1,0 +1,66 @@
+//! The calls that the static libraries sise_c, sise_singly and sise_tree_c export. A slice crosses as its first element's address and its length; it has to
+//! outlive the call, and nobody else may hold one that the call writes.
+
+extern "C" {
+    pub fn sise_count_items(text: *const u8, text_len: usize) -> u64;
+
+    pub fn sise_parse_tree(
+        text: *const u8,
+        text_len: usize,
+        table: *mut u32,
+        table_len: usize,
+    ) -> u64;
+
+    pub fn sise_index_path(
+        table: *const u32,
+        table_len: usize,
+        text: *const u8,
+        text_len: usize,
+        path: *const u64,
+        path_len: usize,
+    ) -> u64;
+
+    pub fn sise_serialize_tree(
+        line_break: *const u8,
+        line_break_len: usize,
+        indentation: *const u8,
+        indentation_len: usize,
+        buf: *mut u8,
+        buf_len: usize,
+        text: *const u8,
+        text_len: usize,
+        table: *const u32,
+        table_len: usize,
+        break_line_at: u64,
+    ) -> u64;
+
+    pub fn sise_write_calls(
+        words: *const u64,
+        words_len: usize,
+        atoms: *const u8,
+        atoms_len: usize,
+        line_break: *const u8,
+        line_break_len: usize,
+        indentation: *const u8,
+        indentation_len: usize,
+        buf: *mut u8,
+        buf_len: usize,
+        answers: *mut u64,
+        answers_len: usize,
+    ) -> u64;
+
+    pub fn sise_write_calls_singly(
+        words: *const u64,
+        words_len: usize,
+        atoms: *const u8,
+        atoms_len: usize,
+        line_break: *const u8,
+        line_break_len: usize,
+        indentation: *const u8,
+        indentation_len: usize,
+        buf: *mut u8,
+        buf_len: usize,
+        answers: *mut u64,
+        answers_len: usize,
+    ) -> u64;
+}
