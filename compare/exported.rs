@@ -1,7 +1,9 @@
-//! The calls that the static libraries sise_c, sise_singly and sise_tree_c export. A slice crosses as its first element's address and its length; it has to
-//! outlive the call, and nobody else may hold one that the call writes.
+//! The calls that the static libraries sise_c and sise_singly export. A slice crosses as its first element's address and its length; it has to outlive the
+//! call, and nobody else may hold one that the call writes. `values` are two words.
 
 extern "C" {
+    pub fn sise_check_atom(atom: *const u8, atom_len: usize) -> u32;
+
     pub fn sise_count_items(text: *const u8, text_len: usize) -> u64;
 
     pub fn sise_parse_tree(
@@ -9,7 +11,8 @@ extern "C" {
         text_len: usize,
         table: *mut u32,
         table_len: usize,
-    ) -> u64;
+        values: *mut u64,
+    ) -> u32;
 
     pub fn sise_index_path(
         table: *const u32,
@@ -18,7 +21,8 @@ extern "C" {
         text_len: usize,
         path: *const u64,
         path_len: usize,
-    ) -> u64;
+        values: *mut u64,
+    ) -> u32;
 
     pub fn sise_serialize_tree(
         line_break: *const u8,
@@ -32,7 +36,31 @@ extern "C" {
         table: *const u32,
         table_len: usize,
         break_line_at: u64,
-    ) -> u64;
+        final_break: bool,
+        values: *mut u64,
+    ) -> u32;
+
+    pub fn sise_measure_tree(
+        line_break: *const u8,
+        line_break_len: usize,
+        indentation: *const u8,
+        indentation_len: usize,
+        text: *const u8,
+        text_len: usize,
+        table: *const u32,
+        table_len: usize,
+        break_line_at: u64,
+        final_break: bool,
+        values: *mut u64,
+    ) -> u32;
+
+    pub fn sise_read_items(
+        text: *const u8,
+        text_len: usize,
+        words: *mut u64,
+        words_len: usize,
+        values: *mut u64,
+    ) -> u32;
 
     pub fn sise_write_calls(
         words: *const u64,

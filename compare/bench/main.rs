@@ -3,12 +3,14 @@
 
 extern crate alloc;
 
+/// Some of the calls have no row.
+#[allow(dead_code)]
 #[path = "../exported.rs"]
 mod exported;
 mod trees;
 mod writing;
 
-use exported::sise_count_items;
+use exported::{sise_check_atom, sise_count_items, sise_read_items};
 use std::time::Instant;
 use trees::Trees;
 use writing::Writing;
@@ -113,6 +115,58 @@ fn row(name: &str, text: &str) {
     );
 }
 
+/// A text's items read into memory that is there: four words an item, or the crate's own items.
+fn items_read(name: &str, text: &str) {
+    let mut words = vec![0; 4 * text.len()];
+    let mut items = Vec::with_capacity(text.len());
+    let mut by_library = || {
+        let mut values = [0; 2];
+        // What is lent outlives the call, and nobody else borrows what it writes.
+        let number = unsafe {
+            sise_read_items(
+                text.as_ptr(),
+                text.len(),
+                words.as_mut_ptr(),
+                words.len(),
+                values.as_mut_ptr(),
+            )
+        };
+        assert_eq!(number, 0);
+        values[0] as usize
+    };
+    let mut by_crate = || {
+        items.clear();
+        let mut parser = Parser::new(text);
+        let mut open = 0u64;
+        while let Ok(item) = parser.next_item() {
+            match item {
+                ParsedItem::ListStart(_) => open += 1,
+                ParsedItem::ListEnd(_) => open -= 1,
+                ParsedItem::Atom(..) => {}
+            }
+            items.push(item);
+            if open == 0 {
+                break;
+            }
+        }
+        parser.finish().expect("the end of the text");
+        items.len()
+    };
+    assert_eq!(by_library(), by_crate());
+    let mut best = (f64::MAX, f64::MAX);
+    for _ in 0..ROUNDS {
+        best.0 = best.0.min(seconds(&mut by_library));
+        best.1 = best.1.min(seconds(&mut by_crate));
+    }
+    let (library, original) = best;
+    let rate = text.len() as f64 / library / 1e6;
+    println!(
+        "{name:<28} {:>10} bytes {rate:>8.0} MB/s {:>8.2}",
+        text.len(),
+        original / library
+    );
+}
+
 /// The items of a text written again, all at one threshold.
 fn written(name: &str, text: &str, threshold: usize) {
     let mut writing = Writing::new(text, threshold);
@@ -132,6 +186,32 @@ fn written(name: &str, text: &str, threshold: usize) {
         original / library
     );
     println!(" {:>8.0} ns/call {:>7.2}", time(singly), original / singly);
+}
+
+/// An atom checked, so many times over.
+fn checked(name: &str, atom: &str, times: usize) {
+    let library = |atom: &str| {
+        // The atom outlives the call, which reads it and keeps nothing.
+        unsafe { sise_check_atom(atom.as_ptr(), atom.len()) == 0 }
+    };
+    assert!(library(atom) && check_atom(atom));
+    let again = |check: &dyn Fn(&str) -> bool| {
+        (0..times)
+            .filter(|_| check(std::hint::black_box(atom)))
+            .count()
+    };
+    let mut best = (f64::MAX, f64::MAX);
+    for _ in 0..ROUNDS {
+        best.0 = best.0.min(seconds(|| again(&library)));
+        best.1 = best.1.min(seconds(|| again(&check_atom)));
+    }
+    let (library, original) = best;
+    println!(
+        "{name:<28} {:>10} bytes {:>8.1} ns/call {:>5.2}",
+        atom.len(),
+        library / times as f64 * 1e9,
+        original / library
+    );
 }
 
 /// A text read into a tree.
@@ -214,8 +294,23 @@ fn trees(size: usize) {
     tree_indexed("path, 10 kB", &typical(10_000), &[1, 4, 2, 1]);
 }
 
+fn atoms() {
+    println!(
+        "{:<28} {:>16} {:>13} {:>8}",
+        "check_atom", "", "library", "ratio"
+    );
+    checked("long plain", &"travel-limit.".repeat(1_000), 200);
+    checked(
+        "long string",
+        &format!("\"{}\"", "focus (mm) \\\" ".repeat(1_000)),
+        200,
+    );
+    checked("short", "limit", 200_000);
+}
+
 fn main() {
     const SIZE: usize = 1_000_000;
+    atoms();
     println!(
         "{:<28} {:>16} {:>13} {:>8}",
         "reading", "", "library", "ratio"
@@ -241,6 +336,9 @@ fn main() {
     for size in [10_000, 100_000, 1_000_000, 16_000_000] {
         row("typical profile, growing", &typical(size));
     }
+
+    items_read("into words, typical profile", &typical(SIZE));
+    items_read("into words, short atoms", &list_of("x 12 -0.5 ", SIZE));
     println!(
         "{:<28} {:>16} {:>16} {:>7} {:>16} {:>7}",
         "writing", "", "library", "ratio", "one at a time", "ratio"

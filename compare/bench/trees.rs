@@ -34,8 +34,16 @@ impl<'a> Trees<'a> {
 
     pub fn parse_by_library(&mut self) -> u64 {
         let (text, table) = (self.text, &mut self.table);
-        // Both slices outlive the call, and nobody else borrows the one that it writes.
-        unsafe { sise_parse_tree(text.as_ptr(), text.len(), table.as_mut_ptr(), table.len()) }
+        // Here and below, what is lent outlives the call, and nobody else borrows what it writes.
+        told(|values| unsafe {
+            sise_parse_tree(
+                text.as_ptr(),
+                text.len(),
+                table.as_mut_ptr(),
+                table.len(),
+                values,
+            )
+        })
     }
 
     pub fn parse_by_crate(&self) -> TreeNode {
@@ -43,8 +51,7 @@ impl<'a> Trees<'a> {
     }
 
     pub fn write_by_library(&mut self, threshold: usize) -> u64 {
-        // All five slices outlive the call, and nobody else borrows the one that it writes.
-        unsafe {
+        told(|values| unsafe {
             sise_serialize_tree(
                 STYLE.line_break.as_ptr(),
                 STYLE.line_break.len(),
@@ -57,8 +64,10 @@ impl<'a> Trees<'a> {
                 self.table.as_ptr(),
                 self.table.len(),
                 threshold as u64,
+                false,
+                values,
             )
-        }
+        })
     }
 
     pub fn write_by_crate(&mut self, threshold: usize) -> u64 {
@@ -78,8 +87,7 @@ impl<'a> Trees<'a> {
 
     pub fn index_by_library(&self, path: &[u64]) -> u64 {
         let (table, text) = (&self.table, self.text);
-        // All three slices outlive the call, which keeps none.
-        unsafe {
+        told(|values| unsafe {
             sise_index_path(
                 table.as_ptr(),
                 table.len(),
@@ -87,13 +95,21 @@ impl<'a> Trees<'a> {
                 text.len(),
                 path.as_ptr(),
                 path.len(),
+                values,
             )
-        }
+        })
     }
 
     pub fn index_by_crate(&self, path: &[usize]) -> Option<&TreeNode> {
         self.tree.index_path(path)
     }
+}
+
+/// What a call answers that is not refused.
+fn told(call: impl FnOnce(*mut u64) -> u32) -> u64 {
+    let mut values = [0; 2];
+    assert_eq!(call(values.as_mut_ptr()), 0);
+    values[0]
 }
 
 fn size(tree: &TreeNode) -> u64 {

@@ -1,4 +1,4 @@
-//! Answers: a number, or 2^32 and the number of a refusal.
+//! Answers: a number, or 2^32 and the number of a refusal; and what they are told by.
 
 use crate::guard::Edge;
 
@@ -11,6 +11,31 @@ pub fn refused(number: u64) -> u64 {
 /// The number, where the answer is a refusal.
 pub fn refusal(answer: u64) -> Option<u64> {
     answer.checked_sub(REFUSED)
+}
+
+/// What a call told: 0 or the number of a refusal, and its two values.
+#[derive(PartialEq)]
+pub struct Told {
+    pub number: u32,
+    pub values: [u64; 2],
+}
+
+impl Told {
+    /// The answer, or the refusal of a call over a text of so many bytes, with the values that belong to it.
+    pub fn answer(&self, text_len: usize) -> Check<u64> {
+        let [first, second] = self.values;
+        let fits = match self.number {
+            0 => second == 0,
+            1..=3 => first < text_len as u64 && char::from_u32(second as u32).is_some(),
+            4..=8 | 12 => first <= text_len as u64 && second == 0,
+            _ => self.values == [0; 2],
+        };
+        ensure(fits, "the values of the answer or of the refusal")?;
+        Ok(match self.number {
+            0 => first,
+            number => refused(u64::from(number)),
+        })
+    }
 }
 
 /// The rule that was not kept.

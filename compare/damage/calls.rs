@@ -1,8 +1,9 @@
 //! The exported calls, each on copies of its slices in guarded memory.
 
+use crate::answers::Told;
 use crate::exported::{
-    sise_count_items, sise_index_path, sise_parse_tree, sise_serialize_tree, sise_write_calls,
-    sise_write_calls_singly,
+    sise_check_atom, sise_count_items, sise_index_path, sise_measure_tree, sise_parse_tree,
+    sise_read_items, sise_serialize_tree, sise_write_calls, sise_write_calls_singly,
 };
 use crate::guard::{Edge, Region};
 
@@ -40,6 +41,17 @@ pub struct Calls {
     filled: Region,
     buffer: Region,
     answers: Region,
+    values: Region,
+}
+
+/// Two words that no call tells.
+const BEFORE: [u64; 2] = [u64::MAX; 2];
+
+fn told(number: u32, values: &[u64]) -> Told {
+    Told {
+        number,
+        values: values.try_into().expect("two words were lent"),
+    }
 }
 
 impl Calls {
@@ -54,32 +66,48 @@ impl Calls {
             filled: Region::writable(),
             buffer: Region::writable(),
             answers: Region::writable(),
+            values: Region::writable(),
         }
+    }
+
+    pub fn check_atom(&mut self, atom: &[u8], edge: Edge) -> u32 {
+        self.made += 1;
+        let atom = self.text.lend(atom, edge);
+        // Here and below, the lent slices outlive the call, and no two are of one region.
+        unsafe { sise_check_atom(atom.first(), atom.len()) }
     }
 
     pub fn count_items(&mut self, text: &[u8], edge: Edge) -> u64 {
         self.made += 1;
         let text = self.text.lend(text, edge);
-        // Here and below, the lent slices outlive the call, and no two are of one region.
         unsafe { sise_count_items(text.first(), text.len()) }
     }
 
     /// The answer, and the table after the call.
-    pub fn parse_tree(&mut self, text: &[u8], table: &[u32], edge: Edge) -> (u64, Vec<u32>) {
+    pub fn parse_tree(&mut self, text: &[u8], table: &[u32], edge: Edge) -> (Told, Vec<u32>) {
         self.made += 1;
         let text = self.text.lend(text, edge);
         let table = self.filled.lend(table, edge);
-        let answer =
-            unsafe { sise_parse_tree(text.first(), text.len(), table.first(), table.len()) };
-        (answer, table.values())
+        let values = self.values.lend(&BEFORE, edge);
+        let number = unsafe {
+            sise_parse_tree(
+                text.first(),
+                text.len(),
+                table.first(),
+                table.len(),
+                values.first(),
+            )
+        };
+        (told(number, &values.values()), table.values())
     }
 
-    pub fn index_path(&mut self, text: &[u8], table: &[u32], path: &[u64], edge: Edge) -> u64 {
+    pub fn index_path(&mut self, text: &[u8], table: &[u32], path: &[u64], edge: Edge) -> Told {
         self.made += 1;
         let text = self.text.lend(text, edge);
         let table = self.table.lend(table, edge);
         let path = self.words.lend(path, edge);
-        unsafe {
+        let values = self.values.lend(&BEFORE, edge);
+        let number = unsafe {
             sise_index_path(
                 table.first(),
                 table.len(),
@@ -87,8 +115,10 @@ impl Calls {
                 text.len(),
                 path.first(),
                 path.len(),
+                values.first(),
             )
-        }
+        };
+        told(number, &values.values())
     }
 
     /// The answer, and the buffer after the call.
@@ -99,15 +129,17 @@ impl Calls {
         text: &[u8],
         table: &[u32],
         break_line_at: u64,
+        final_break: bool,
         edge: Edge,
-    ) -> (u64, Vec<u8>) {
+    ) -> (Told, Vec<u8>) {
         self.made += 1;
         let line_break = self.line_break.lend(&style.line_break, edge);
         let indentation = self.indentation.lend(&style.indentation, edge);
         let buffer = self.buffer.lend(buffer, edge);
         let text = self.text.lend(text, edge);
         let table = self.table.lend(table, edge);
-        let answer = unsafe {
+        let values = self.values.lend(&BEFORE, edge);
+        let number = unsafe {
             sise_serialize_tree(
                 line_break.first(),
                 line_break.len(),
@@ -120,9 +152,62 @@ impl Calls {
                 table.first(),
                 table.len(),
                 break_line_at,
+                final_break,
+                values.first(),
             )
         };
-        (answer, buffer.values())
+        (told(number, &values.values()), buffer.values())
+    }
+
+    pub fn measure_tree(
+        &mut self,
+        style: &Style,
+        text: &[u8],
+        table: &[u32],
+        break_line_at: u64,
+        final_break: bool,
+        edge: Edge,
+    ) -> Told {
+        self.made += 1;
+        let line_break = self.line_break.lend(&style.line_break, edge);
+        let indentation = self.indentation.lend(&style.indentation, edge);
+        let text = self.text.lend(text, edge);
+        let table = self.table.lend(table, edge);
+        let values = self.values.lend(&BEFORE, edge);
+        let number = unsafe {
+            sise_measure_tree(
+                line_break.first(),
+                line_break.len(),
+                indentation.first(),
+                indentation.len(),
+                text.first(),
+                text.len(),
+                table.first(),
+                table.len(),
+                break_line_at,
+                final_break,
+                values.first(),
+            )
+        };
+        told(number, &values.values())
+    }
+
+    /// The answer, and the words after the call.
+    pub fn read_items(&mut self, text: &[u8], words: &[u64], edge: Edge) -> (Told, Vec<u64>) {
+        self.made += 1;
+        let text = self.text.lend(text, edge);
+        let words = self.answers.lend(words, edge);
+        let values = self.values.lend(&BEFORE, edge);
+        let number = unsafe {
+            sise_read_items(
+                text.first(),
+                text.len(),
+                words.first(),
+                words.len(),
+                values.first(),
+            )
+        };
+        (told(number, &values.values()), words.values())
     }
 
     /// All calls in one, or each by the writer's method of its own.

@@ -71,6 +71,7 @@ fn tree(random: &mut Random, text: Vec<u8>, table: Vec<u32>) -> Tree {
         style: style(random),
         buffer: bytes(random, room),
         break_line_at: threshold(random),
+        final_break: random.percent(50),
     }
 }
 

@@ -25,9 +25,10 @@ fn on_small_stack() -> Check<u64> {
     let text = [b"(".repeat(LISTS), b")".repeat(LISTS)].concat();
     let table = parsed(&mut calls, &text)?;
     indexed(&mut calls, &text, &table)?;
-    let (wrote, after) = calls.serialize_tree(&lines(), b"before", &text, &table, 0, Edge::End);
+    let (wrote, after) =
+        calls.serialize_tree(&lines(), b"before", &text, &table, 0, false, Edge::End);
     ensure(
-        wrote == refused(21) && after == b"before",
+        wrote.answer(text.len())? == refused(21) && after == b"before",
         "serialize_tree: 21 for deep lists",
     )?;
     Ok(calls.made)
@@ -35,9 +36,9 @@ fn on_small_stack() -> Check<u64> {
 
 /// Lists that are never closed.
 fn unfinished(calls: &mut Calls) -> Check {
-    let (answer, _) = calls.parse_tree(&b"(".repeat(LONGEST), &[], Edge::End);
+    let (told, _) = calls.parse_tree(&b"(".repeat(LONGEST), &[], Edge::End);
     ensure(
-        answer == refused(5),
+        told.answer(LONGEST)? == refused(5),
         "parse_tree: 5 for lists that are never closed",
     )?;
     let count = calls.count_items(&b"(".repeat(LONGEST), Edge::End);
@@ -52,11 +53,14 @@ fn parsed(calls: &mut Calls, text: &[u8]) -> Check<Vec<u32>> {
     let before = vec![u32::MAX; 4 * LISTS];
     let (short, same) = calls.parse_tree(text, &before[1..], Edge::End);
     ensure(
-        short == refused(14) && same == before[1..],
+        short.answer(text.len())? == refused(14) && same == before[1..],
         "parse_tree: deep lists, one word short",
     )?;
-    let (answer, table) = calls.parse_tree(text, &before, Edge::End);
-    ensure(answer == LISTS as u64, "parse_tree: deep lists")?;
+    let (told, table) = calls.parse_tree(text, &before, Edge::End);
+    ensure(
+        told.answer(text.len())? == LISTS as u64,
+        "parse_tree: deep lists",
+    )?;
     let good = table.chunks(4).enumerate().all(|(node, words)| {
         let span = (LISTS - node) as u32;
         words == [0, u32::from(span > 1), 0, span]
@@ -73,8 +77,11 @@ fn indexed(calls: &mut Calls, text: &[u8], table: &[u32]) -> Check {
         (LISTS - 1, LISTS as u64 - 1),
         (LISTS, refused(16)),
     ] {
-        let answer = calls.index_path(text, table, &path[..steps], Edge::End);
-        ensure(answer == expected, "index_path: deep lists")?;
+        let told = calls.index_path(text, table, &path[..steps], Edge::End);
+        ensure(
+            told.answer(text.len())? == expected,
+            "index_path: deep lists",
+        )?;
     }
     Ok(())
 }

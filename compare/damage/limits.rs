@@ -19,15 +19,20 @@ pub fn check(calls: &mut Calls) -> Check {
 
 /// The answers of the three tree calls over a text.
 fn tree_calls(calls: &mut Calls, text: &[u8], expected: [u64; 3]) -> Check {
-    let parsed = twice(|edge| calls.parse_tree(text, &LIST, edge))?;
+    let (parsed, table) = twice(|edge| calls.parse_tree(text, &LIST, edge))?;
     ensure(
-        parsed == (expected[0], LIST.to_vec()),
+        parsed.answer(text.len())? == expected[0] && table == LIST,
         "parse_tree at the longest text",
     )?;
     let indexed = twice(|edge| calls.index_path(text, &LIST, &[], edge))?;
-    ensure(indexed == expected[1], "index_path at the longest text")?;
+    ensure(
+        indexed.answer(text.len())? == expected[1],
+        "index_path at the longest text",
+    )?;
     let (style, buffer) = (lines(), b"before");
-    let (wrote, after) = twice(|edge| calls.serialize_tree(&style, buffer, text, &LIST, 0, edge))?;
+    let (wrote, after) =
+        twice(|edge| calls.serialize_tree(&style, buffer, text, &LIST, 0, false, edge))?;
+    let wrote = wrote.answer(text.len())?;
     let left: &[u8] = if wrote == 2 { b"()fore" } else { buffer };
     ensure(
         wrote == expected[2] && after == left,

@@ -11,6 +11,7 @@ mod deep;
 mod exported;
 mod forms;
 mod guard;
+mod items;
 mod limits;
 mod numbers;
 mod options;

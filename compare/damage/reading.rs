@@ -1,11 +1,13 @@
-//! `sise_count_items` and `sise_parse_tree`.
+//! `sise_count_items`, `sise_parse_tree`, `sise_check_atom`, and `sise_read_items` beside them.
 
 use crate::answers::{ensure, only_first, refusal, refused, twice, Check};
 use crate::calls::Calls;
-use crate::forms::{holds_tree, items};
+use crate::forms;
+use crate::forms::holds_tree;
+use crate::items;
 
-/// A text's refusals from a fresh reader; 12 comes only after a list start that was read before.
-const OF_TEXT: [u64; 7] = [1, 2, 3, 4, 5, 6, 8];
+/// A whole text's refusals; 12 comes only where a list start was read before.
+const OF_TEXT: [u64; 8] = [1, 2, 3, 4, 5, 6, 7, 8];
 
 /// Reads the text into tables of several lengths, and gives what the call left of this one.
 pub fn check(calls: &mut Calls, text: &[u8], before: &[u32]) -> Check<Vec<u32>> {
@@ -16,7 +18,13 @@ pub fn check(calls: &mut Calls, text: &[u8], before: &[u32]) -> Check<Vec<u32>> 
         count <= text.len() as u64,
         "count_items: no more items than bytes",
     )?;
+    items::check(calls, text, whole, count)?;
     let (answer, after) = parsed(calls, text, before)?;
+    let atom = refusal(whole).is_none() && tree[..4] == [1, 0, text.len() as u32, 1];
+    ensure(
+        twice(|edge| calls.check_atom(text, edge))? == if atom { 0 } else { 17 },
+        "check_atom: 0 where the whole text is one atom",
+    )?;
     if refusal(whole).is_some() {
         ensure(
             refusal(whole) != Some(14),
@@ -29,7 +37,7 @@ pub fn check(calls: &mut Calls, text: &[u8], before: &[u32]) -> Check<Vec<u32>> 
         return Ok(after);
     }
     let tree = &tree[..4 * whole as usize];
-    ensure(count == items(tree), "count_items: the tree's items")?;
+    ensure(count == forms::items(tree), "count_items: the tree's items")?;
     let fits = tree.len() <= before.len();
     ensure(
         answer == if fits { whole } else { refused(14) },
@@ -55,7 +63,8 @@ fn exact(calls: &mut Calls, text: &[u8], tree: &[u32]) -> Check {
 
 /// One call, and what holds after it.
 fn parsed(calls: &mut Calls, text: &[u8], before: &[u32]) -> Check<(u64, Vec<u32>)> {
-    let (answer, after) = twice(|edge| calls.parse_tree(text, before, edge))?;
+    let (told, after) = twice(|edge| calls.parse_tree(text, before, edge))?;
+    let answer = told.answer(text.len())?;
     if let Some(number) = refusal(answer) {
         ensure(
             number == 14 || OF_TEXT.contains(&number),

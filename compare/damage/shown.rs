@@ -8,7 +8,7 @@ const MOST: usize = 300;
 
 pub fn tree_shown(tree: &Tree) -> String {
     format!(
-        "text {}; table {}; paths {:x?}; line break {}; indentation {}; buffer of {} bytes; threshold {:x}",
+        "text {}; table {}; paths {:x?}; line break {}; indentation {}; buffer of {} bytes; threshold {:x}; final break {}",
         values(&tree.text, ""),
         values(&tree.table, " "),
         tree.paths,
@@ -16,6 +16,7 @@ pub fn tree_shown(tree: &Tree) -> String {
         values(&tree.style.indentation, ""),
         tree.buffer.len(),
         tree.break_line_at,
+        tree.final_break,
     )
 }
 

@@ -1,4 +1,4 @@
-//! `sise_index_path` and `sise_serialize_tree` on any table.
+//! `sise_index_path`, `sise_serialize_tree` and `sise_measure_tree` on any table.
 
 use crate::answers::{ensure, only_first, refusal, refused, twice, Check};
 use crate::calls::{Calls, Style};
@@ -11,6 +11,7 @@ pub struct Tree {
     pub style: Style,
     pub buffer: Vec<u8>,
     pub break_line_at: u64,
+    pub final_break: bool,
 }
 
 impl Tree {
@@ -21,6 +22,12 @@ impl Tree {
         ensure(
             (answer == refused(15)) != holds,
             "serialize_tree: 15 where there is no tree",
+        )?;
+        let measured = self.measured(calls)?;
+        let short = refusal(measured).is_none() && measured > self.buffer.len() as u64;
+        ensure(
+            answer == if short { refused(22) } else { measured },
+            "measure_tree: what serialize_tree writes",
         )?;
         if refusal(answer).is_none() {
             self.check_rooms(calls, &written[..answer as usize])?;
@@ -35,10 +42,22 @@ impl Tree {
             } else {
                 refused(15)
             };
-            let answer = twice(|edge| calls.index_path(&self.text, &self.table, path, edge))?;
-            ensure(answer == expected, "index_path: the node, 15 or 16")?;
+            let told = twice(|edge| calls.index_path(&self.text, &self.table, path, edge))?;
+            ensure(
+                told.answer(self.text.len())? == expected,
+                "index_path: the node, 15 or 16",
+            )?;
         }
         Ok(())
+    }
+
+    fn measured(&self, calls: &mut Calls) -> Check<u64> {
+        let Self {
+            text, table, style, ..
+        } = self;
+        let (threshold, last) = (self.break_line_at, self.final_break);
+        let told = twice(|edge| calls.measure_tree(style, text, table, threshold, last, edge))?;
+        told.answer(text.len())
     }
 
     /// A buffer that is exactly full, and one a byte shorter.
@@ -54,14 +73,12 @@ impl Tree {
     /// One call, and what holds after it.
     fn serialized(&self, calls: &mut Calls, before: &[u8]) -> Check<(u64, Vec<u8>)> {
         let Self {
-            text,
-            table,
-            style,
-            break_line_at,
-            ..
+            text, table, style, ..
         } = self;
-        let (answer, after) =
-            twice(|edge| calls.serialize_tree(style, before, text, table, *break_line_at, edge))?;
+        let (threshold, last) = (self.break_line_at, self.final_break);
+        let (told, after) =
+            twice(|edge| calls.serialize_tree(style, before, text, table, threshold, last, edge))?;
+        let answer = told.answer(text.len())?;
         if let Some(number) = refusal(answer) {
             ensure(
                 [15, 17, 21, 22].contains(&number),

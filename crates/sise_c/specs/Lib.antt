@@ -1,2 +1,5 @@
-pub mod Count
+pub mod Told
+pub mod Items
+pub mod ItemExamples
+pub mod Passes
 pub mod Written

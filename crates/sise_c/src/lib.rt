@@ -1,36 +1,148 @@
-// Calls for programs in C and Rust, over numbers and slices alone.
+// Calls for programs in C and Rust, over numbers and slices alone: include/sise.h declares them and says what a caller owes. Each does a whole job on
+// memory that is lent to it. The result is 0 or document 01's number of the refusal; `values` are what is answered and 0, or the refusal's place and
+// code point. On a refusal nothing else is written.
+mod items;
+mod told;
+
+use items::count_items;
+use items::fill_items;
 use sise_layout::write_calls;
-use sise_parser::Answer;
-use sise_parser::Reader;
+use sise_parser::Finished;
+use sise_serializer::Serializer;
+use sise_tree::index_path;
+use sise_tree::measure_tree;
+use sise_tree::parse_text;
+use sise_tree::write_tree;
+use sise_util::check_atom;
+use told::Values;
+use told::tell_indexed;
+use told::tell_parsed;
+use told::tell_put;
+use told::tell_refused;
 ghost use mathlib.Core.Path.{_≡_};
+ghost use mathlib.Core.List.{List};
+ghost use Prim.Native.Nat.{ℕ};
 ghost use lib.ListN.{length};
-ghost use Rattle.sise_serializer.specs.Serializer.{style};
+ghost use Rattle.sise_util.specs.Atom.{isAtom};
+ghost use Rattle.sise_serializer.specs.Serializer.{style, freshSerializer};
 ghost use Rattle.sise_layout.specs.Calls.{writing};
 ghost use Rattle.sise_layout.specs.Words.{callsOf};
-ghost use Rattle.sise_c.specs.Count.{countItems};
+ghost use Rattle.sise_tree.specs.IndexPath.{indexPath};
+ghost use Rattle.sise_tree.specs.ParseTree.{longest};
+ghost use Rattle.sise_tree.specs.ParseText.{parseText};
+ghost use Rattle.sise_tree.specs.SerializeTree.{writeTree};
+ghost use Rattle.sise_tree.specs.Writing.{textCalls};
+ghost use Rattle.sise_c.specs.Told.{checked, Tells, sizeOf};
+ghost use Rattle.sise_c.specs.Items.{readItems};
 ghost use Rattle.sise_c.specs.Written.{Writes};
 
-// How many items a reader of the text gives before its first refusal; a whole text is refused with 9 after its last item.
+// The most bytes of a text that is written.
+const LONGEST: usize = 16777216;
+
+// Whether the bytes are an atom: 0 or 17.
 #[no_mangle]
-pub extern "C" fn sise_count_items(text: &[u8]) -> u64
-    ensures { λ r. ⌜ r ≡ countItems (now (text .entry)) ⌝ }
+pub extern "C" fn sise_check_atom(atom: &[u8]) -> u32
+    ensures { λ r. ⌜ r ≡ checked (isAtom (now (atom .entry))) ⌝ }
 {
-    let mut reader = Reader::new();
-    let mut count: u64 = 0;
-    let mut left = text.len();
-    loop {
-        let next = reader.next_item(text);
-        let answer = next.answer;
-        let Answer::Item(_) = answer else {
-            return count;
-        };
-        count += 1;
-        if left == 0 {
-            return count;
-        }
-        left -= 1;
-        reader = next.reader;
+    if check_atom(atom) { 0 } else { 17 }
+}
+
+// Reads a whole text, which is one node, into the table. Told is how many nodes it has.
+#[no_mangle]
+pub extern "C" fn sise_parse_tree(text: &[u8], table: &mut [u32], values: &mut Values) -> u32
+    ensures told { λ r. ⌜ Tells (parseText (now (text .entry)) (now (table .entry)) .answer) r (now (values .exit)) ⌝ }
+    ensures words { λ r. ⌜ now (table .exit) ≡ parseText (now (text .entry)) (now (table .entry)) .words ⌝ }
+{
+    tell_parsed(parse_text(text, table), values)
+}
+
+// Finds the node at the end of the path. Told is its index in the table.
+#[no_mangle]
+pub extern "C" fn sise_index_path(
+    table: &[u32],
+    text: &[u8],
+    path: &[u64],
+    values: &mut Values,
+) -> u32
+    ensures { λ r. ⌜ Tells (indexPath (now (table .entry)) (now (text .entry)) (now (path .entry))) r (now (values .exit)) ⌝ }
+{
+    tell_indexed(index_path(table, text, path), values)
+}
+
+// Writes the tree that the table holds over the text to the buffer's start, and a line break after it if wished. Told is how many bytes are written.
+#[no_mangle]
+pub extern "C" fn sise_serialize_tree(
+    line_break: &[u8],
+    indentation: &[u8],
+    buf: &mut [u8],
+    text: &[u8],
+    table: &[u32],
+    break_line_at: u64,
+    final_break: bool,
+    values: &mut Values,
+) -> u32
+    ensures told { λ r. ⌜ Tells (sizeOf (writeTree (style (now («line_break» .entry)) (now (indentation .entry))) (now (buf .entry)) freshSerializer (now (text .entry)) (now (table .entry)) (textCalls (now (text .entry)) «break_line_at» «final_break»))) r (now (values .exit)) ⌝ }
+    ensures bytes { λ r. ⌜ now (buf .exit) ≡ writeTree (style (now («line_break» .entry)) (now (indentation .entry))) (now (buf .entry)) freshSerializer (now (text .entry)) (now (table .entry)) (textCalls (now (text .entry)) «break_line_at» «final_break») .buffer ⌝ }
+{
+    let wrote = write_tree(
+        Serializer::new(),
+        line_break,
+        indentation,
+        buf,
+        text,
+        table,
+        break_line_at,
+        final_break,
+    );
+    let answer = wrote.answer;
+    tell_put(answer, wrote.serializer.position, values)
+}
+
+// Told is how many bytes sise_serialize_tree writes, with no buffer: what it tells of any buffer of the most bytes that it writes.
+#[no_mangle]
+pub extern "C" fn sise_measure_tree(
+    line_break: &[u8],
+    indentation: &[u8],
+    text: &[u8],
+    table: &[u32],
+    break_line_at: u64,
+    final_break: bool,
+    values: &mut Values,
+) -> u32
+    ensures { λ r. ⌜ ((b : List ℕ) → length b ≡ longest → Tells (sizeOf (writeTree (style (now («line_break» .entry)) (now (indentation .entry))) b freshSerializer (now (text .entry)) (now (table .entry)) (textCalls (now (text .entry)) «break_line_at» «final_break»))) r (now (values .exit))) ⌝ }
+{
+    let measured = measure_tree(
+        Serializer::new(),
+        line_break,
+        indentation,
+        LONGEST,
+        text,
+        table,
+        break_line_at,
+        final_break,
+    );
+    let answer = measured.answer;
+    tell_put(answer, measured.serializer.position, values)
+}
+
+// Reads the items of a whole text into words, four an item, as sise_write_calls takes them. Told is how many items there are.
+#[no_mangle]
+pub extern "C" fn sise_read_items(text: &[u8], words: &mut [u64], values: &mut Values) -> u32
+    ensures told { λ r. ⌜ Tells (readItems (now (text .entry)) (now (words .entry)) .answer) r (now (values .exit)) ⌝ }
+    ensures words { λ r. ⌜ now (words .exit) ≡ readItems (now (text .entry)) (now (words .entry)) .words ⌝ }
+{
+    let counted = count_items(text);
+    let ending = counted.ending;
+    if let Finished::Refused(error) = ending {
+        return tell_refused(error, values);
     }
+    if counted.items > words.len() / 4 {
+        *values = [0, 0];
+        return 14;
+    }
+    fill_items(text, words);
+    *values = [counted.items as u64, 0];
+    0
 }
 
 // Runs a list of writer calls, as write_calls of sise_layout does, and returns how many bytes of the buffer are written.

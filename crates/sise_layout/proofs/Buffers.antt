@@ -21,7 +21,7 @@ module _ (l : List ℕ) (at : ℕ) (b : List ℕ) (h : at + length b ≤ length 
   head-length : length (take at l ++ b) ≡ at + length b
   head-length = length-append (take at l) b ∙ ap (λ (n : ℕ). n + length b) (length-take-le at l (omega arith))
 
-  pasted-length : length (pasted l at b) ≡ length l
+  pub pasted-length : length (pasted l at b) ≡ length l
   unfolding pasted
   pasted-length =
       length-append (take at l ++ b) (drop (at + length b) l)

@@ -13,6 +13,7 @@ use Rattle.sise_util.specs.Chars.{oneOf, isAtomChr}
 use Rattle.sise_util.specs.Classes.{classOf, classNumber}
 use Rattle.sise_util.proofs.ClassLaws.{space-number, tab-number, line-end-number, semicolon-number, left-number, right-number, quote-number, atom-number}
 use Rattle.sise_parser.specs.Lexer.{Lexed, found, opening, closing, atom, wrong, between, comment, plain, string}
+use Rattle.sise_parser.specs.Plain.{skipBlanks, atomRun}
 use Rattle.sise_parser.specs.Meaning.{Reads}
 use Rattle.sise_parser.proofs.Steps as steps
 
@@ -51,15 +52,17 @@ module _ (text : List ℕ) (p : ℕ) (h : p < length text) where
       yes : b ≡ 13 → oneOf (10 ∷ 13 ∷ []) b ≡ true
       yes e = ap (oneOf (10 ∷ 13 ∷ [])) e
 
+  space-blank : OneOf (10 ∷ 32 ∷ []) b → OneOf (0 ∷ 2 ∷ 4 ∷ []) k
+  space-blank = ⊎-elim (λ e. inr (inr (line-end (inl e)))) (λ e. inl (has 0 (space-number b) (eq-eqb b 32 e)))
+
+  tab-blank : OneOf (9 ∷ 13 ∷ []) b → OneOf (0 ∷ 2 ∷ 4 ∷ []) k
+  tab-blank = ⊎-elim (λ e. inr (inl (has 2 (tab-number b) (eq-eqb b 9 e)))) (λ e. inr (inr (line-end (inr e))))
+
   pub between-space : OneOf (10 ∷ 32 ∷ []) b → between (drop p text) p ≡ between (drop (p + 1) text) (p + 1)
-  between-space = ⊎-elim
-      (λ e. steps.between-blank reads (inr (inr (line-end (inl e)))))
-      (λ e. steps.between-blank reads (inl (has 0 (space-number b) (eq-eqb b 32 e))))
+  between-space n = steps.between-blank reads (space-blank n)
 
   pub between-tab : OneOf (9 ∷ 13 ∷ []) b → between (drop p text) p ≡ between (drop (p + 1) text) (p + 1)
-  between-tab = ⊎-elim
-      (λ e. steps.between-blank reads (inr (inl (has 2 (tab-number b) (eq-eqb b 9 e)))))
-      (λ e. steps.between-blank reads (inr (inr (line-end (inr e)))))
+  between-tab n = steps.between-blank reads (tab-blank n)
 
   pub between-comment : b ≡ 59 → between (drop p text) p ≡ comment (drop (p + 1) text) (p + 1)
   between-comment e = steps.between-semicolon reads (has 7 (semicolon-number b) (eq-eqb b 59 e))
@@ -76,22 +79,41 @@ module _ (text : List ℕ) (p : ℕ) (h : p < length text) where
   pub between-string : b ≡ 34 → between (drop p text) p ≡ plain (drop p text) p p
   between-string e = steps.between-atom reads (inl (has 1 (quote-number b) (eq-eqb b 34 e)))
 
+  no-blank : (OneOf (10 ∷ 32 ∷ []) b → ⊥) → (OneOf (9 ∷ 13 ∷ []) b → ⊥) → OneOf (0 ∷ 2 ∷ 4 ∷ []) k → ⊥
+  no-blank blank tabs =
+      ⊎-elim (hasn't 0 (space-number b) (ne-eqb b 32 (λ e. blank (inr e))))
+      (⊎-elim (hasn't 2 (tab-number b) (ne-eqb b 9 (λ e. tabs (inl e)))) (hasn't 4 (line-end-number b) no-line-end))
+    where
+      no-line-end : oneOf (10 ∷ 13 ∷ []) b ≡ false
+      no-line-end = unfold oneOf in rw (ne-eqb b 10 (λ e. blank (inl e)), ne-eqb b 13 (λ e. tabs (inr e)))
+
   -- no byte that begins a token or is a blank
   pub between-wrong : (OneOf (10 ∷ 32 ∷ []) b → ⊥) → (OneOf (9 ∷ 13 ∷ []) b → ⊥) → (b ≡ 40 → ⊥) → (b ≡ 41 → ⊥) → (b ≡ 59 → ⊥)
       → isAtomChr b ≡ false → (b ≡ 34 → ⊥) → between (drop p text) p ≡ wrong 1 (drop p text) p
   between-wrong blank tabs left right semi n quote =
       steps.between-wrong reads (
-        ((((tt, no-blank), hasn't 7 (semicolon-number b) (ne-eqb b 59 semi)), hasn't 8 (left-number b) (ne-eqb b 40 left)), hasn't 9 (right-number b) (ne-eqb b 41 right)),
+        ((((tt, no-blank blank tabs), hasn't 7 (semicolon-number b) (ne-eqb b 59 semi)), hasn't 8 (left-number b) (ne-eqb b 40 left)), hasn't 9 (right-number b) (ne-eqb b 41 right)),
         no-start,
       )
     where
-      no-line-end : oneOf (10 ∷ 13 ∷ []) b ≡ false
-      no-line-end = unfold oneOf in rw (ne-eqb b 10 (λ e. blank (inl e)), ne-eqb b 13 (λ e. tabs (inr e)))
-
-      no-blank : OneOf (0 ∷ 2 ∷ 4 ∷ []) k → ⊥
-      no-blank =
-          ⊎-elim (hasn't 0 (space-number b) (ne-eqb b 32 (λ e. blank (inr e))))
-          (⊎-elim (hasn't 2 (tab-number b) (ne-eqb b 9 (λ e. tabs (inl e)))) (hasn't 4 (line-end-number b) no-line-end))
-
       no-start : OneOf (1 ∷ 3 ∷ []) k → ⊥
       no-start = ⊎-elim (hasn't 1 (quote-number b) (ne-eqb b 34 quote)) (hasn't 3 (atom-number b) n)
+
+  -- over blanks
+  pub blanks-space : OneOf (10 ∷ 32 ∷ []) b → skipBlanks (drop p text) p ≡ skipBlanks (drop (p + 1) text) (p + 1)
+  blanks-space n = steps.blanks-on reads (space-blank n)
+
+  pub blanks-tab : OneOf (9 ∷ 13 ∷ []) b → skipBlanks (drop p text) p ≡ skipBlanks (drop (p + 1) text) (p + 1)
+  blanks-tab n = steps.blanks-on reads (tab-blank n)
+
+  pub blanks-stop : (OneOf (10 ∷ 32 ∷ []) b → ⊥) → (OneOf (9 ∷ 13 ∷ []) b → ⊥) → skipBlanks (drop p text) p ≡ p
+  blanks-stop blank tabs = steps.blanks-stop reads (tt, no-blank blank tabs)
+
+  -- in a run of atom characters
+  pub run-on : isAtomChr b ≡ true → atomRun (drop p text) p ≡ atomRun (drop (p + 1) text) (p + 1)
+  unfolding atomRun
+  run-on y = ap (λ (m : List ℕ). atomRun m p) (steps.here reads) ∙ rw (y, atomRun)
+
+  pub run-stops : isAtomChr b ≡ false → atomRun (drop p text) p ≡ p
+  unfolding atomRun
+  run-stops n = ap (λ (m : List ℕ). atomRun m p) (steps.here reads) ∙ rw (n, atomRun)

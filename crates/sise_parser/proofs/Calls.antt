@@ -1,24 +1,26 @@
 -- The two calls of the definition, where it is known whether the record is sound, which phase it has and what the token is.
 -- Assumes nothing.
 use mathlib.Core.Path.{_≡_, refl, sym, ap, _∙_}
-use mathlib.Core.Bool.{true, false, _&&_}
+use mathlib.Core.Bool.{Bool, true, false, _&&_, cond}
 use mathlib.Core.List.{List, [], _∷_}
-use Prim.Native.Nat.{ℕ, _≤_}
+use Prim.Native.Nat.{ℕ, _+_, _-_, _≤_, _<_}
 use native.Mathlib.Omega.{arith}
 use lib.Dec.{leb}
-use lib.ListN.{length, drop}
-use borrow.Author.Tests.{leb-true}
+use lib.ListN.{length, drop, getD}
+use borrow.Author.Tests.{leb-true, le-leb, ne-eqb}
 use types.Run.{OneOf}
 use denote.Enum.Declared.{tagOf}
 use mathlib.Core.Logic.{⊎-elim}
 use Rattle.sise_util.proofs.Ranges.{split, and-first, and-second}
 use Rattle.sise_parser.specs.Refusals.{Refusal, refusal}
 use Rattle.sise_parser.specs.Lexer.{Lexed, found, bad, Token, eof}
-use Rattle.sise_parser.specs.Reader.{reader, listsFit, isSound, refused, Next, next, refusedWith, tokenAt, inBeginning, inParsing, nextIn, nextItem, Ending, ended, notEnded, endsAt, finishIn, finishReading}
+use Rattle.sise_parser.specs.Reader.{reader, listsFit, isSound, item, refused, Next, next, refusedWith, tokenAt, inBeginning, inParsing, nextIn, nextItem, Ending, ended, notEnded, endsAt, finishIn, finishReading}
 use Rattle.sise_parser.proofs.reader.Phase as phases
 use Rattle.sise_parser.specs.declared.reader.Phase.{Phase}
 use Rattle.sise_parser.specs.declared.reader.Phase.the-variants.{Beginning, Parsing, Finishing}
 use Rattle.sise_parser.specs.declared.reader.Reader.{Reader}
+use Rattle.sise_parser.specs.declared.reader.ParsedItem.the-variants.{ListStart, ListEnd}
+use Rattle.sise_parser.proofs.ByteSteps.{between-open, between-close}
 
 -- the parts of a sound record
 pub record Sound (n : ℕ) (r : Reader) : Type 0 where
@@ -86,6 +88,26 @@ module _ (text : List ℕ) (r : Reader) where
         go Beginning p k = ap (λ (g : Phase). next (reader q g (r .lists)) (refused e)) p ∙ next-beginning p d
         go Parsing p k = ap (λ (g : Phase). next (reader q g (r .lists)) (refused e)) p ∙ next-parsing p d
         go Finishing p k = absurd (⊎-elim (λ (e : 2 ≡ 0). omega arith) (λ (e : 2 ≡ 1). omega arith) k)
+
+-- a bracket right at the position of a record that is sound while parsing
+module _ (text : List ℕ) (r : Reader) (e : r .phase ≡ Parsing) (w : r .position < length text) (o : r .lists ≤ r .position) (k : 1 < r .lists) where
+  sound-here : isSound (length text) r ≡ true
+  unfolding isSound
+  sound-here =
+      let l : r .position ≤ length text = omega arith in
+      let m : 1 ≤ r .lists = omega arith in
+      rw (le-leb (r .position) (length text) l, le-leb (r .lists) (r .position) o) (ap (λ (f : Phase). listsFit f (r .lists)) e ∙ le-leb 1 (r .lists) m)
+
+  pub opened-here : getD text (r .position) 0 ≡ 40 → next (reader (r .position + 1) Parsing (r .lists + 1)) (item (ListStart (r .position))) ≡ nextItem text r
+  unfolding inParsing tokenAt
+  opened-here b = next-parsing text r sound-here e (sym (between-open text (r .position) w b))
+
+  pub closed-here : getD text (r .position) 0 ≡ 41 → next (reader (r .position + 1) Parsing (r .lists - 1)) (item (ListEnd (r .position))) ≡ nextItem text r
+  unfolding inParsing tokenAt
+  closed-here b =
+      let two : r .lists ≡ 1 → ⊥ = λ z. absurd (omega arith) in
+      ap (λ (c : Bool). next (cond c (reader (r .position + 1) Finishing 0) (reader (r .position + 1) Parsing (r .lists - 1))) (item (ListEnd (r .position)))) (sym (ne-eqb (r .lists) 1 two))
+      ∙ next-parsing text r sound-here e (sym (between-close text (r .position) w b))
 
 -- finish
 module _ (text : List ℕ) (r : Reader) where

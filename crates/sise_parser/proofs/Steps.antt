@@ -9,6 +9,7 @@ use types.Run.{OneOf}
 use Rattle.sise_util.specs.Classes.{Class, space, quote, tab, atomChr, lineEnd, backslash, other, semicolon, left, right, printable, classOf, classNumber}
 use Rattle.sise_util.proofs.Lists.{drop-next}
 use Rattle.sise_parser.specs.Lexer.{Lexed, found, eof, opening, closing, atom, unfinished, wrong, between, comment, plain, string, escape}
+use Rattle.sise_parser.specs.Plain.{skipBlanks, atomRun}
 use Rattle.sise_parser.specs.Meaning.{Reads}
 
 -- what a `match` says of k in its last arm, `_`: it is none of the numbers of the other arms, the last of those first
@@ -59,6 +60,14 @@ module _ (text : List ℕ) {p : ℕ} (h : length text ≤ p) where
   unfolding escape
   escape-end s = rw ends
 
+  pub blanks-end : skipBlanks (drop p text) p ≡ p
+  unfolding skipBlanks
+  blanks-end = rw ends
+
+  pub run-end : atomRun (drop p text) p ≡ p
+  unfolding atomRun
+  run-end = rw ends
+
 -- at a byte b, whose class has the number k, with l behind it
 module _ {text : List ℕ} {p k : ℕ} (r : Reads text p k) where
   abbrev b : ℕ
@@ -67,7 +76,7 @@ module _ {text : List ℕ} {p k : ℕ} (r : Reads text p k) where
   abbrev l : List ℕ
   l = drop (p + 1) text
 
-  here : drop p text ≡ b ∷ l
+  pub here : drop p text ≡ b ∷ l
   here = drop-next text p (r .inside)
 
   is : (n : ℕ) → k ≡ n → classOf b ≡ getD classes n other
@@ -228,3 +237,25 @@ module _ {text : List ℕ} {p k : ℕ} (r : Reads text p k) where
       go left e m = rw (e, escape)
       go right e m = rw (e, escape)
       go printable e m = rw (e, escape)
+
+  -- over blanks
+  pub blanks-on : OneOf (0 ∷ 2 ∷ 4 ∷ []) k → skipBlanks (drop p text) p ≡ skipBlanks l (p + 1)
+  unfolding skipBlanks
+  blanks-on n = ap (λ (m : List ℕ). skipBlanks m p) here ∙ ⊎-elim (λ e. rw (is 0 e, skipBlanks)) (⊎-elim (λ e. rw (is 2 e, skipBlanks)) (λ e. rw (is 4 e, skipBlanks))) n
+
+  pub blanks-stop : Rest ((0 ∷ 2 ∷ 4 ∷ []) ∷ []) k → skipBlanks (drop p text) p ≡ p
+  unfolding skipBlanks classNumber
+  blanks-stop n = ap (λ (m : List ℕ). skipBlanks m p) here ∙ go (classOf b) refl (r .class)
+    where
+      go : (c : Class) → classOf b ≡ c → k ≡ classNumber c → skipBlanks (b ∷ l) p ≡ p
+      go space e m = absurd (n .1 (inl m))
+      go quote e m = rw (e, skipBlanks)
+      go tab e m = absurd (n .1 (inr (inl m)))
+      go atomChr e m = rw (e, skipBlanks)
+      go lineEnd e m = absurd (n .1 (inr (inr m)))
+      go backslash e m = rw (e, skipBlanks)
+      go other e m = rw (e, skipBlanks)
+      go semicolon e m = rw (e, skipBlanks)
+      go left e m = rw (e, skipBlanks)
+      go right e m = rw (e, skipBlanks)
+      go printable e m = rw (e, skipBlanks)

@@ -13,10 +13,12 @@ use sise_util::classes::classes;
 use sise_util::is_atom_byte;
 ghost use mathlib.Core.Path.{_≡_};
 ghost use Prim.Native.Nat.{_≤_, _<_};
-ghost use lib.ListN.{length, drop};
+ghost use lib.Dec.{eqb};
+ghost use lib.ListN.{length, drop, getD};
 ghost use Rattle.sise_util.specs.Classes.{classTable};
 ghost use Rattle.sise_parser.specs.Refusals.{refusal, refusalOf};
 ghost use Rattle.sise_parser.specs.Lexer.{between, plain, unfinished, wrong};
+ghost use Rattle.sise_parser.specs.Plain.{skipBlanks, atomRun, AtomTo};
 ghost use Rattle.sise_parser.specs.Meaning.{lexedAs, wrongAs, placeNumber, Reads, Ends};
 
 pub enum Token {
@@ -134,6 +136,57 @@ fn lex_string(text: &[u8], from: usize) -> StringEnd
             }
         }
     }
+}
+
+// The first place from `from` on that holds no blank, or the end. The arms of blanks are two, since Rattle makes a range of neighbours.
+pub fn skip_blanks(text: &[u8], from: usize) -> usize
+    ensures same { λ r. ⌜ r ≡ skipBlanks (drop from (now (text .entry))) from ⌝ }
+    ensures after { λ r. ⌜ from ≤ r ⌝ }
+    ensures token { λ r. ⌜ between (drop from (now (text .entry))) from ≡ between (drop r (now (text .entry))) r ⌝ }
+{
+    let mut at = from;
+    loop {
+        if text.len() <= at {
+            return at;
+        }
+        match text[at] {
+            b' ' | b'\n' => {
+                at += 1;
+            }
+            b'\t' | b'\r' => {
+                at += 1;
+            }
+            _ => {
+                return at;
+            }
+        }
+    }
+}
+
+// The end of the run of atom characters that begins at `start`.
+pub fn atom_run(text: &[u8], start: usize) -> usize
+    ensures same { λ r. ⌜ r ≡ atomRun (drop start (now (text .entry))) start ⌝ }
+    ensures after { λ r. ⌜ start ≤ r ⌝ }
+    ensures token { λ r. ⌜ AtomTo (now (text .entry)) start r ⌝ }
+{
+    let mut at = start;
+    loop {
+        if text.len() <= at {
+            return at;
+        }
+        if is_atom_byte(text[at]) {
+            at += 1;
+        } else {
+            return at;
+        }
+    }
+}
+
+// Whether a `"` stands at `at`.
+pub fn is_quote_at(text: &[u8], at: usize) -> bool
+    ensures { λ r. ⌜ r ≡ eqb (getD (now (text .entry)) at 0) 34 ⌝ }
+{
+    at < text.len() && text[at] == b'"'
 }
 
 // The atom that begins at `start`: it runs to the end of the text or to a byte outside strings that is no atom character and no quote.

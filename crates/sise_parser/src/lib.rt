@@ -5,6 +5,9 @@ mod parser;
 mod reader;
 
 pub use error::ParseError;
+pub use lexer::atom_run;
+pub use lexer::is_quote_at;
+pub use lexer::skip_blanks;
 pub use parser::Parsed;
 pub use parser::Parser;
 pub use reader::Answer;
@@ -14,3 +17,4 @@ pub use reader::ParsedItem;
 pub use reader::Phase;
 pub use reader::Reader;
 pub use reader::atom_bytes;
+pub use reader::item_ahead;

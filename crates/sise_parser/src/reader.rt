@@ -174,32 +174,28 @@ impl Reader {
         lists_fit(phase, self.lists)
     }
 
-    // The next item of the text. The record that comes back is for the next call, after a refusal too.
+    // The next item of the text. The record that comes back is for the next call, after a refusal too. A bracket right at the position is told here, in few
+    // steps, so that the call costs nothing in a loop.
     pub fn next_item(self, text: &[u8]) -> Next
         ensures { λ r. ⌜ nextAs r ≡ nextItem (now (text .entry)) self ⌝ }
     {
         let position = self.position;
         let phase = self.phase;
         let lists = self.lists;
-        if !self.is_sound(text.len()) {
-            return refused(position, phase, lists, ParseError::UnsoundRecord);
-        }
-        if let Phase::Finishing = phase {
-            return refused(position, phase, lists, ParseError::ParsingFinished);
-        }
-        match get_token(text, position) {
-            Lexed::Refused(wrong) => {
-                let error = wrong.error;
-                refused(wrong.position, phase, lists, error)
-            }
-            Lexed::Found(token, start, end) => {
-                if let Phase::Beginning = phase {
-                    first_item(lists, token, start, end)
-                } else {
-                    inner_item(lists, token, start, end)
+        if let Phase::Parsing = phase {
+            if position < text.len() && lists <= position && 1 < lists {
+                let byte = text[position];
+                if byte == b'(' {
+                    let start = ParsedItem::ListStart { pos: position };
+                    return item(position + 1, Phase::Parsing, lists + 1, start);
+                }
+                if byte == b')' {
+                    let end = ParsedItem::ListEnd { pos: position };
+                    return item(position + 1, Phase::Parsing, lists - 1, end);
                 }
             }
         }
+        item_ahead(position, phase, lists, text)
     }
 
     // Whether the text ends after the last item.
@@ -235,4 +231,34 @@ pub fn atom_bytes(text: &[u8], place: usize, len: usize) -> &[u8]
         return &text[..0];
     }
     &text[place..place + len]
+}
+
+// The next item of the text for a record of these parts, which are handed over one by one since that is faster than a struct.
+pub fn item_ahead(position: usize, phase: Phase, lists: usize, text: &[u8]) -> Next
+    ensures { λ r. ⌜ nextAs r ≡ nextItem (now (text .entry)) (reader position phase lists) ⌝ }
+{
+    let record = Reader {
+        position,
+        phase,
+        lists,
+    };
+    if !record.is_sound(text.len()) {
+        return refused(position, phase, lists, ParseError::UnsoundRecord);
+    }
+    if let Phase::Finishing = phase {
+        return refused(position, phase, lists, ParseError::ParsingFinished);
+    }
+    match get_token(text, position) {
+        Lexed::Refused(wrong) => {
+            let error = wrong.error;
+            refused(wrong.position, phase, lists, error)
+        }
+        Lexed::Found(token, start, end) => {
+            if let Phase::Beginning = phase {
+                first_item(lists, token, start, end)
+            } else {
+                inner_item(lists, token, start, end)
+            }
+        }
+    }
 }

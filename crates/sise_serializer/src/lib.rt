@@ -14,5 +14,6 @@ pub use steps::begin_step;
 pub use steps::end_step;
 pub use steps::finish_step;
 pub use steps::fresh_progress;
+pub use steps::phase_after;
 pub use steps::put_atom_step;
 pub use steps::put_step;

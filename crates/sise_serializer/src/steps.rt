@@ -474,7 +474,7 @@ pub fn begin_step(
 }
 
 // The phase with so many lists left open after a close.
-fn phase_after(lists: usize) -> Phase
+pub fn phase_after(lists: usize) -> Phase
     ensures { λ r. ⌜ r ≡ phaseAfter lists ⌝ }
 {
     if lists == 0 {

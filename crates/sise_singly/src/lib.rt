@@ -1,11 +1,38 @@
-// The writer's calls made one at a time, for a program that measures them. It is a library of its own: where two callers share the steps, the compiler
-// joins them into neither, and both are slower.
+// The reader's and the writer's calls made one at a time, for a program that measures them. It is a library of its own: where two callers share the steps,
+// the compiler joins them into neither, and both are slower.
 use sise_layout::write_calls_singly;
+use sise_parser::Answer;
+use sise_parser::Reader;
+ghost use mathlib.Core.Path.{_≡_};
 ghost use lib.ListN.{length};
 ghost use Rattle.sise_serializer.specs.Serializer.{style};
 ghost use Rattle.sise_layout.specs.Calls.{writing};
 ghost use Rattle.sise_layout.specs.Words.{callsOf};
 ghost use Rattle.sise_c.specs.Written.{Writes};
+ghost use Rattle.sise_singly.specs.Count.{countItems};
+
+// How many items a reader of the text gives before its first refusal; a whole text is refused with 9 after its last item.
+#[no_mangle]
+pub extern "C" fn sise_count_items(text: &[u8]) -> u64
+    ensures { λ r. ⌜ r ≡ countItems (now (text .entry)) ⌝ }
+{
+    let mut reader = Reader::new();
+    let mut count: u64 = 0;
+    let mut left = text.len();
+    loop {
+        let next = reader.next_item(text);
+        let answer = next.answer;
+        let Answer::Item(_) = answer else {
+            return count;
+        };
+        count += 1;
+        if left == 0 {
+            return count;
+        }
+        left -= 1;
+        reader = next.reader;
+    }
+}
 
 // Does what sise_write_calls of sise_c does by the writer's four methods, which take the whole record and hand it back.
 #[no_mangle]

@@ -5,9 +5,9 @@ use Prim.Native.Nat.{ℕ, _+_, _-_, _≤_}
 use native.Mathlib.Omega.{arith}
 use mathlib.Core.Path.{_≡_, refl, sym, ap, _∙_}
 use mathlib.Core.Bool.{Bool, true, false, cond, false≢true}
-use mathlib.Core.List.{List, [], _∷_}
+use mathlib.Core.List.{List, [], _∷_, _++_}
 use lib.Dec.{leb}
-use lib.ListN.{length, take, drop, length-drop}
+use lib.ListN.{length, take, drop, length-append, length-take, length-drop}
 use types.Run.{OneOf}
 use denote.Enum.Declared.{tagOf}
 use borrow.Author.Tests.{leb-true, leb-false, eqb-true, eq-eqb, ne-eqb}
@@ -31,10 +31,11 @@ use Rattle.sise_serializer.proofs.Does.{put-unsound, begin-unsound, end-unsound
 use Rattle.sise_serializer.proofs.Sound.{sound}
 use Rattle.sise_layout.specs.Calls.{Call, putAtomCall, beginListCall, endListCall, finishCall, step, run}
 use Rattle.sise_layout.proofs.Running.{refusal-word}
+use Rattle.sise_layout.proofs.Buffers.{pasted-length}
 use Rattle.sise_layout.proofs.Verdicts.{Puts, atomAlone, atomInside, listFirst, listInside, listClosed, textEnded, Verdict, refuses, puts, verdict}
 use Rattle.sise_tree.specs.Tree.{kind, first, second}
 use Rattle.sise_tree.specs.SerializeTree.{fits}
-use Rattle.sise_tree.specs.Writing.{callAt, ended}
+use Rattle.sise_tree.specs.Writing.{callAt}
 
 -- an atom that was checked where it lies is one
 pub checked-atom : (text : List ℕ) (p m : ℕ) → isAtomPrefix (drop p text) m ≡ true → isAtom (partOf text p m) ≡ true
@@ -62,39 +63,6 @@ module _ (text words : List ℕ) (a t i : ℕ) where
   unfolding callAt
   call-atom e = rw (ne-eqb _ _ e)
 
--- an answer that is no offset is a refusal: an offset's word is not that of a refusal
-pub refused-answer : (p : Put) → OneOf (1 ∷ 2 ∷ 3 ∷ 4 ∷ 5 ∷ 6 ∷ 7 ∷ []) (tagOf puts.the-type p) → answerAs p ≡ writer.Answer.refused (numberOf (answerAs p))
-refused-answer (At o) k = absurd (omega (arith, refusal-word (At 0) k))
-refused-answer UnsoundRecord k = refl
-refused-answer InvalidAtom k = refl
-refused-answer NoListToEnd k = refl
-refused-answer WritingFinished k = refl
-refused-answer WritingNotFinished k = refl
-refused-answer TooDeep k = refl
-refused-answer NoRoom k = refl
-
--- writing nothing
-pub unpasted : (commit : Bool) (b : List ℕ) (at : ℕ) → cond commit (pasted b at []) b ≡ b
-unpasted true b at = pasted-none b at
-unpasted false b at = refl
-
--- the end of a walk: without a finish, with one, and with one that is refused
-module _ (s : Style) (w : Serializer) (o : ℕ) (commit : Bool) (b : List ℕ) where
-  pub ended-none : {finish : Bool} {p : Progress} {flags : List Bool} → finish ≡ false → w ≡ joined p flags
-      → Steps (ended s (length b) w finish o) w commit b (record { progress = p; answer = At o }) flags b
-  unfolding ended
-  ended-none f e = rw f (record { serializer = sym e; answer = refl; buffer = sym (unpasted commit b (w .position)) })
-
-  module _ {finish : Bool} (f : finish ≡ true) {r : Step} {flags : List Bool} {now : List ℕ} (made : Steps (finishWriting s (length b) w true) w commit b r flags now) where
-    pub ended-made : {at : ℕ} → answerAs (r .answer) ≡ writer.Answer.accepted at
-        → Steps (ended s (length b) w finish o) w commit b (record { progress = r .progress; answer = At o }) flags now
-    unfolding ended
-    ended-made q = rw f (record { serializer = made .serializer; answer = rw (sym (made .answer) ∙ q); buffer = made .buffer })
-
-    pub ended-refused : {n : ℕ} → answerAs (r .answer) ≡ writer.Answer.refused n → Steps (ended s (length b) w finish o) w commit b r flags now
-    unfolding ended
-    ended-refused q = rw f (record { serializer = made .serializer; answer = made .answer ∙ rw (sym (made .answer) ∙ q); buffer = made .buffer })
-
 -- ---- the number of open lists
 
 -- an accepted call's lists
@@ -106,7 +74,7 @@ lists-after (finishCall wished) n = n
 
 module _ (s : Style) (room : ℕ) (w : Serializer) where
   -- only a sound record is accepted
-  unsound : (c : Call) → isSound w ≡ false → step s room w c ≡ writer.refuse 11 w
+  pub unsound : (c : Call) → isSound w ≡ false → step s room w c ≡ writer.refuse 11 w
   unfolding step
   unsound (putAtomCall a t) h = put-unsound s room w a t h
   unsound (beginListCall t) h = begin-unsound s room w t h
@@ -151,18 +119,42 @@ module _ (s : Style) (room : ℕ) (w : Serializer) where
   unfolding fits
   fits-off c cs h = rw h
 
+-- what an accepted call writes lies inside the buffer
+kept-of : (s : Style) (b : List ℕ) (w : Serializer) (c : Call) (r : Written) {o : ℕ} → Verdict s (length b) w c r → r .answer ≡ writer.Answer.accepted o
+    → length (pasted b (w .position) (r .bytes)) ≡ length b
+kept-of s b w c r {o} (refuses n u) e = let z : _≡_ {A = ℕ} 0 1 = cc in absurd (omega arith)
+kept-of s b w c r {o} (puts p q f) e = pasted-length b (w .position) (p .layout ++ p .token) (omega (arith, length-append (p .layout) (p .token)))
+
+accepted-keeps : (s : Style) (b : List ℕ) (w : Serializer) (c : Call) {o : ℕ} → step s (length b) w c .answer ≡ writer.Answer.accepted o
+    → length (pasted b (w .position) (step s (length b) w c .bytes)) ≡ length b
+accepted-keeps s b w c e = kept-of s b w c (step s (length b) w c) (verdict s (length b) w c) e
+
+-- ---- the record after the calls, which depends on the buffer's length alone
+
+pasted-long : (b b′ : List ℕ) → length b ≡ length b′ → (at : ℕ) (x : List ℕ) → length (pasted b at x) ≡ length (pasted b′ at x)
+unfolding pasted
+pasted-long b b′ h at x = simp (length-append, length-take, length-drop, h)
+
+pub run-last : (s : Style) (w : Serializer) (cs : List Call) (b b′ : List ℕ) → length b ≡ length b′ → run s b w cs .last ≡ run s b′ w cs .last
+unfolding run
+run-last s w [] b b′ h = refl
+run-last s w (c ∷ cs) b b′ h =
+    let x = step s (length b′) w c .bytes in
+    ap (λ (k : ℕ). run s (pasted b (w .position) (step s k w c .bytes)) (step s k w c .serializer) cs .last) h
+    ∙ run-last s (step s (length b′) w c .serializer) cs (pasted b (w .position) x) (pasted b′ (w .position) x) (pasted-long b b′ h (w .position) x)
+
 -- ---- what is left of the calls
 
 -- the calls cs, from the record w and the buffer b, do as the whole, cs₀ from w₀ and b₀, does
 pub record Same (s : Style) (commit : Bool) (b₀ : List ℕ) (w₀ : Serializer) (cs₀ : List Call) (b : List ℕ) (w : Serializer) (cs : List Call) : Type 0 where
   pub room : length b ≡ length b₀
   pub fit : fits s (length b₀) w cs ≡ fits s (length b₀) w₀ cs₀
-  pub last : commit ≡ true → run s b w cs .last ≡ run s b₀ w₀ cs₀ .last
+  pub last : run s b w cs .last ≡ run s b₀ w₀ cs₀ .last
   pub buffer : commit ≡ true → run s b w cs .buffer ≡ run s b₀ w₀ cs₀ .buffer
   pub kept : commit ≡ false → b ≡ b₀
 
 pub same-start : (s : Style) (commit : Bool) (b : List ℕ) (w : Serializer) (cs : List Call) → Same s commit b w cs b w cs
-same-start s commit b w cs = record { room = refl; fit = refl; last = λ e. refl; buffer = λ e. refl; kept = λ e. refl }
+same-start s commit b w cs = record { room = refl; fit = refl; last = refl; buffer = λ e. refl; kept = λ e. refl }
 
 module _ {s : Style} {commit : Bool} {b₀ : List ℕ} {w₀ : Serializer} {cs₀ : List Call} {b : List ℕ} {w : Serializer} {c : Call} {cs : List Call}
     (h : Same s commit b₀ w₀ cs₀ b w (c ∷ cs)) {v : Serializer} {now : List ℕ}
@@ -175,11 +167,7 @@ module _ {s : Style} {commit : Bool} {b₀ : List ℕ} {w₀ : Serializer} {cs�
     fit =
         ap (λ (x : Serializer). fits s (length b₀) x cs) (does ∙ ap (λ (k : ℕ). step s k w c .serializer) (h .room))
         ∙ sym (fits-on s (length b₀) w c cs (rw (h .room) at e)) ∙ h .fit;
-    last = λ t. rw (does, writes, t) (h .last t);
+    last = rw does (run-last s (step s (length b) w c .serializer) cs now _ (keeps ∙ sym (accepted-keeps s b w c e)) ∙ h .last);
     buffer = λ t. rw (does, writes, t) (h .buffer t);
     kept = λ t. (rw t at writes) ∙ h .kept t;
   }
-
-  -- the call is refused
-  pub same-off : {n : ℕ} → step s (length b) w c .answer ≡ writer.Answer.refused n → (fits s (length b₀) w₀ cs₀ ≡ false) × (commit ≡ false → now ≡ b₀)
-  same-off e = (sym (h .fit) ∙ fits-off s (length b₀) w c cs (rw (h .room) at e), λ t. (rw t at writes) ∙ h .kept t)

@@ -12,16 +12,13 @@ use Rattle.sise_parser.specs.declared.reader.ParsedItem.the-variants.{Atom, Lis
 use Rattle.sise_tree.specs.Tree.{Node, atom, list, empty, size, sizes}
 use Rattle.sise_tree.specs.Answers as answers
 use Rattle.sise_tree.specs.Answers.{parsedAs}
-use Rattle.sise_tree.specs.ParseTree.{Frames, top, _▹_, Stage, inside, whole, snoc, attach, close, turn, readStage, readNode}
-use Rattle.sise_tree.specs.Filling.{filled, filledIn, DoesCount, counted, readerOf}
+use Rattle.sise_tree.specs.ParseTree.{Frames, top, _▹_, inside, whole, snoc, attach, close, turn, readStage, readNode}
+use Rattle.sise_tree.specs.Filling.{opened, filled, filledIn, Counts, DoesCount, counted, readerOf}
 use Rattle.sise_tree.specs.declared.parse.ParsedTree.{ParsedTree}
 use Rattle.sise_tree.specs.declared.parse.ParsedTree.the-variants.{Nodes as NodesRead, UnexpectedListEnd}
-use Rattle.sise_tree.proofs.ReadSteps.{took, readOn, read-item, read-refused}
+use Rattle.sise_tree.proofs.ReadSteps.{took, read-refused}
+use Rattle.sise_tree.proofs.ParseSteps.{stands-none, turned, stands-on}
 use Rattle.sise_tree.proofs.FillingLaws.{attach-filled}
-
-unfoldable pub opened : Frames → ℕ
-opened top = 0
-opened (f ▹ c) = opened f + 1
 
 opened-le : (f : Frames) → opened f ≤ filled f
 unfolding opened filled
@@ -29,7 +26,7 @@ opened-le top = omega arith
 opened-le (f ▹ c) = omega (arith, opened-le f)
 
 -- a node is attached inside a list, or is the whole
-attach-in : {C : Type 0} (f : Frames) (n : Node) → (opened f ≡ 0 → ⊥) → ((g : Frames) → attach f n ≡ inside g → opened g ≡ opened f → C) → C
+pub attach-in : {C : Type 0} (f : Frames) (n : Node) → (opened f ≡ 0 → ⊥) → ((g : Frames) → attach f n ≡ inside g → opened g ≡ opened f → C) → C
 unfolding attach opened
 attach-in top n d k = absurd (d refl)
 attach-in (f ▹ c) n d k = k (f ▹ snoc c n) refl refl
@@ -40,79 +37,68 @@ attach-out top n d = (refl, refl)
 attach-out (f ▹ c) n d = absurd (omega arith)
 
 module _ (text : List ℕ) (r₀ : Reader) where
-  -- reading on with these open lists, so many and of so many nodes, is reading the node
-  pub record Counts (f : Frames) (r : Reader) (depth nodes : ℕ) : Type 0 where
-    pub reads : readOn text r f ≡ readNode text r₀
-    pub deep : depth ≡ opened f
-    pub many : nodes ≡ filled f
-    pub early : nodes ≤ r .position
-
-  pub counts-none : Counts top r₀ 0 0
-  unfolding opened filled readNode
-  counts-none = record { reads = refl; deep = refl; many = refl; early = omega arith }
+  pub counts-none : Counts text r₀ top r₀ 0 0
+  unfolding filled
+  counts-none = record { stands = stands-none text r₀; many = refl; early = omega arith }
 
   -- where it is known what the item makes of the open lists
-  module _ {f : Frames} {r : Reader} {depth nodes : ℕ} (h : Counts f r depth nodes) {q : Reader} {i : ParsedItem} (e : nextItem text r ≡ next q (item i)) where
-    turned : {s : Stage} → turn f i ≡ s → readStage (readOn text q) q s ≡ readNode text r₀
-    turned t = ap (readStage (readOn text q) q) (sym t) ∙ sym (read-item text r f e) ∙ h .reads
-
+  module _ {f : Frames} {r : Reader} {depth nodes : ℕ} (h : Counts text r₀ f r depth nodes) {q : Reader} {i : ParsedItem} (e : nextItem text r ≡ next q (item i)) where
     ends : {n : Node} {k : ℕ} → turn f i ≡ whole n → k ≡ size n → DoesCount (readNode text r₀) (record { reader = q; answer = NodesRead k })
     unfolding readStage
-    ends t z = record { reader = ap readerOf (turned t); answer = ap answers.answered z ∙ ap counted (turned t) }
+    ends t z = let x = turned text r₀ (h .stands) e t in record { reader = ap readerOf x; answer = ap answers.answered z ∙ ap counted x }
 
-    goes : {g : Frames} {d k : ℕ} → turn f i ≡ inside g → d ≡ opened g → k ≡ filled g → k ≤ nodes + 1 → Counts g q d k
-    unfolding readStage
-    goes t dz kz le = record { reads = turned t; deep = dz; many = kz; early = omega (arith, h .early, took text r e .moves) }
+    goes : {g : Frames} {d k : ℕ} → turn f i ≡ inside g → d ≡ opened g → k ≡ filled g → k ≤ nodes + 1 → Counts text r₀ g q d k
+    goes t dz kz le = record { stands = stands-on text r₀ (h .stands) e t dz; many = kz; early = omega (arith, h .early, took text r e .moves) }
 
-  module _ {f : Frames} {r : Reader} {depth nodes : ℕ} (h : Counts f r depth nodes) where
+  module _ {f : Frames} {r : Reader} {depth nodes : ℕ} (h : Counts text r₀ f r depth nodes) where
     pub depth-le : depth ≤ nodes
-    depth-le = omega (arith, h .deep, h .many, opened-le f)
+    depth-le = omega (arith, h .stands .deep, h .many, opened-le f)
 
     pub refused-ends :
         {q : Reader} {x : Refusal} {a : ParsedTree} → nextItem text r ≡ next q (refused x) → parsedAs a ≡ answers.refused x
         → DoesCount (readNode text r₀) (record { reader = q; answer = a })
     refused-ends e d =
-        let z = sym (read-refused text r f e) ∙ h .reads in
+        let z = sym (read-refused text r f e) ∙ h .stands .reads in
         record { reader = ap readerOf z; answer = d ∙ ap counted z }
 
-    pub start-goes : {q : Reader} {p : ℕ} → nextItem text r ≡ next q (item (ListStart p)) → (g : Frames) × Counts g q (depth + 1) (nodes + 1)
+    pub start-goes : {q : Reader} {p : ℕ} → nextItem text r ≡ next q (item (ListStart p)) → (g : Frames) × Counts text r₀ g q (depth + 1) (nodes + 1)
     unfolding turn opened filled sizes
-    start-goes e = (f ▹ empty, goes h e refl (omega (arith, h .deep)) (omega (arith, h .many)) (omega arith))
+    start-goes e = (f ▹ empty, goes h e refl (omega (arith, h .stands .deep)) (omega (arith, h .many)) (omega arith))
 
     module _ {q : Reader} {p n : ℕ} (e : nextItem text r ≡ next q (item (Atom p n))) where
       pub atom-ends : depth ≡ 0 → DoesCount (readNode text r₀) (record { reader = q; answer = NodesRead (nodes + 1) })
       unfolding turn size
-      atom-ends z = let (t, none) = attach-out f (atom p n) (sym (h .deep) ∙ z) in ends h e t (omega (arith, h .many))
+      atom-ends z = let (t, none) = attach-out f (atom p n) (sym (h .stands .deep) ∙ z) in ends h e t (omega (arith, h .many))
 
-      pub atom-goes : (depth ≡ 0 → ⊥) → (g : Frames) × Counts g q depth (nodes + 1)
+      pub atom-goes : (depth ≡ 0 → ⊥) → (g : Frames) × Counts text r₀ g q depth (nodes + 1)
       unfolding turn size filledIn
       atom-goes z =
-          attach-in f (atom p n) (λ d. z (h .deep ∙ d)) λ g t o.
+          attach-in f (atom p n) (λ d. z (h .stands .deep ∙ d)) λ g t o.
           let m : filled g ≡ filled f + 1 = ap filledIn (sym t) ∙ attach-filled f (atom p n) in
-          (g, goes h e t (h .deep ∙ sym o) (omega (arith, h .many)) (omega arith))
+          (g, goes h e t (h .stands .deep ∙ sym o) (omega (arith, h .many)) (omega arith))
 
   -- a list's end leaves a node that is attached where its list began
   pub close-ends :
-      {f : Frames} {r : Reader} {depth nodes : ℕ} → Counts f r depth nodes → {q : Reader} {p : ℕ} → nextItem text r ≡ next q (item (ListEnd p))
+      {f : Frames} {r : Reader} {depth nodes : ℕ} → Counts text r₀ f r depth nodes → {q : Reader} {p : ℕ} → nextItem text r ≡ next q (item (ListEnd p))
       → depth ≡ 0 → DoesCount (readNode text r₀) (record { reader = q; answer = UnexpectedListEnd p })
   unfolding turn close opened readStage
-  close-ends {f = top} h e z = record { reader = ap readerOf (turned h e refl); answer = ap counted (turned h e refl) }
-  close-ends {f = f ▹ c} h e z = absurd (omega (arith, h .deep))
+  close-ends {f = top} h e z = let x = turned text r₀ (h .stands) e refl in record { reader = ap readerOf x; answer = ap counted x }
+  close-ends {f = f ▹ c} h e z = absurd (omega (arith, h .stands .deep))
 
   pub list-ends :
-      {f : Frames} {r : Reader} {depth nodes : ℕ} → Counts f r depth nodes → {q : Reader} {p : ℕ} → nextItem text r ≡ next q (item (ListEnd p))
+      {f : Frames} {r : Reader} {depth nodes : ℕ} → Counts text r₀ f r depth nodes → {q : Reader} {p : ℕ} → nextItem text r ≡ next q (item (ListEnd p))
       → (depth ≡ 0 → ⊥) → depth - 1 ≡ 0 → DoesCount (readNode text r₀) (record { reader = q; answer = NodesRead nodes })
   unfolding turn close opened filled size
-  list-ends {f = top} h e z o = absurd (z (h .deep))
-  list-ends {f = f ▹ c} h e z o = let (t, none) = attach-out f (list c) (omega (arith, h .deep)) in ends h e t (omega (arith, h .many))
+  list-ends {f = top} h e z o = absurd (z (h .stands .deep))
+  list-ends {f = f ▹ c} h e z o = let (t, none) = attach-out f (list c) (omega (arith, h .stands .deep)) in ends h e t (omega (arith, h .many))
 
   pub list-goes :
-      {f : Frames} {r : Reader} {depth nodes : ℕ} → Counts f r depth nodes → {q : Reader} {p : ℕ} → nextItem text r ≡ next q (item (ListEnd p))
-      → (depth ≡ 0 → ⊥) → (depth - 1 ≡ 0 → ⊥) → (g : Frames) × Counts g q (depth - 1) nodes
+      {f : Frames} {r : Reader} {depth nodes : ℕ} → Counts text r₀ f r depth nodes → {q : Reader} {p : ℕ} → nextItem text r ≡ next q (item (ListEnd p))
+      → (depth ≡ 0 → ⊥) → (depth - 1 ≡ 0 → ⊥) → (g : Frames) × Counts text r₀ g q (depth - 1) nodes
   unfolding turn close opened filled size filledIn
-  list-goes {f = top} h e z o = absurd (z (h .deep))
+  list-goes {f = top} h e z o = absurd (z (h .stands .deep))
   list-goes {f = f ▹ c} {depth = depth} h e z o =
-      let d : depth - 1 ≡ opened f = omega (arith, h .deep) in
-      attach-in f (list c) (λ y. o (d ∙ y)) λ g t q.
+      let d : depth - 1 ≡ opened f = omega (arith, h .stands .deep) in
+      attach-in f (list c) (λ y. o (d ∙ y)) λ g t y.
       let m : filled g ≡ filled f + (1 + sizes c) = ap filledIn (sym t) ∙ attach-filled f (list c) in
-      (g, goes h e t (d ∙ sym q) (h .many ∙ sym m) (omega arith))
+      (g, goes h e t (d ∙ sym y) (h .many ∙ sym m) (omega arith))

@@ -11,10 +11,11 @@ use Rattle.sise_parser.specs.declared.reader.Reader.{Reader}
 use Rattle.sise_parser.specs.declared.reader.ParsedItem.{ParsedItem}
 use Rattle.sise_parser.specs.declared.reader.ParsedItem.the-variants.{Atom, ListStart, ListEnd}
 use Rattle.sise_tree.specs.Tree.{Node, atom, list, size}
-use Rattle.sise_tree.specs.ParseTree.{Frames, top, _▹_, Stage, inside, whole, closes, attach, close, turn, ReadNode, got, readStage, readNode, filledWith}
-use Rattle.sise_tree.specs.Filling.{filled, link, render, filledIn, linkIn, renderIn, Shows, EndsAt, Fits, Fillable, DoesFill}
+use Rattle.sise_tree.specs.ParseTree.{Frames, top, _▹_, Stage, inside, whole, closes, attach, close, turn, ReadNode, got, readStage, filledWith}
+use Rattle.sise_tree.specs.Filling.{opened, filled, link, render, filledIn, linkIn, renderIn, Shows, EndsAt, Fits, Fillable, Fills, DoesFill}
 use Rattle.sise_tree.specs.declared.parse.Mark.{Mark}
-use Rattle.sise_tree.proofs.ReadSteps.{Took, took, readOn, read-item, read-refused, nodeIn, stopped-got, stage-got, Leads, leads}
+use Rattle.sise_tree.proofs.ReadSteps.{Took, took, readOn, read-refused, nodeIn, stopped-got, stage-got, Leads, leads}
+use Rattle.sise_tree.proofs.ParseSteps.{stands-none, turned, stands-on}
 use Rattle.sise_tree.proofs.ParseLaws.{at-most-bytes}
 use Rattle.sise_tree.proofs.FillingLaws.{attach-filled}
 
@@ -54,32 +55,26 @@ stage-inside (whole n) d = absurd (d refl)
 stage-inside (closes p) d = absurd (d refl)
 
 module _ (text w₀ : List ℕ) (r₀ : Reader) where
-  -- reading on with these open lists is reading the node, and the table stands for them
-  pub record Fills (f : Frames) (r : Reader) (words : List ℕ) (m : Mark) : Type 0 where
-    pub reads : readOn text r f ≡ readNode text r₀
-    pub shows : Shows w₀ (inside f) words m
-    pub same : length words ≡ length w₀
+  pub fills-none : Fills text w₀ r₀ top r₀ 0 w₀ (record { next = 0; parent = 0 })
+  unfolding filled filledIn link linkIn render renderIn
+  fills-none = record { stands = stands-none text r₀; shows = record { shown = refl; nexts = refl; linked = refl }; same = refl }
 
-  pub fills-none : Fills top r₀ w₀ (record { next = 0; parent = 0 })
-  unfolding readNode filled filledIn link linkIn render renderIn
-  fills-none = record { reads = refl; shows = record { shown = refl; nexts = refl; linked = refl }; same = refl }
-
-  module _ {n : Node} {q₀ : Reader} (k : Fillable text r₀ w₀ n q₀) {f : Frames} {r : Reader} {words : List ℕ} {m : Mark} (h : Fills f r words m) where
+  module _ {n : Node} {q₀ : Reader} (k : Fillable text r₀ w₀ n q₀) {f : Frames} {r : Reader} {depth : ℕ} {words : List ℕ} {m : Mark} (h : Fills text w₀ r₀ f r depth words m) where
     pub never-refused : {A : Type 0} {q : Reader} {x : Refusal} → nextItem text r ≡ next q (refused x) → A
-    never-refused e = stopped-got (sym (read-refused text r f e) ∙ h .reads ∙ k .reads)
+    never-refused e = stopped-got (sym (read-refused text r f e) ∙ h .stands .reads ∙ k .reads)
 
     module _ {q : Reader} {i : ParsedItem} (e : nextItem text r ≡ next q (item i)) where
-      turned : {s : Stage} → turn f i ≡ s → readStage (readOn text q) q s ≡ got n q₀
-      turned t = ap (readStage (readOn text q) q) (sym t) ∙ sym (read-item text r f e) ∙ h .reads ∙ k .reads
+      got-on : {s : Stage} → turn f i ≡ s → readStage (readOn text q) q s ≡ got n q₀
+      got-on t = turned text r₀ (h .stands) e t ∙ k .reads
 
       due : (p : ℕ) → turn f i ≡ closes p → ⊥
       unfolding readStage
-      due p t = stopped-got (turned t)
+      due p t = stopped-got (got-on t)
 
       small-size : filledIn (turn f i) ≤ size n
       unfolding filledIn
       small-size =
-          stage-got (turn f i) (turned refl)
+          stage-got (turn f i) (got-on refl)
           (λ g t more. let z = ap filledIn t in omega (arith, leads text (grows text) (suc (length text)) g q more))
           (λ t z. let z = ap filledIn t in omega arith)
 
@@ -105,10 +100,10 @@ module _ (text w₀ : List ℕ) (r₀ : Reader) where
             let (o, t) = turn-done f i (sym (s .linked) ∙ z) due in
             s .shown
             ∙ ap (λ (x : Stage). renderIn x ++ drop (4 * filledIn x) w₀) t
-            ∙ ap (λ (x : ReadNode). filledWith (nodeIn o x) w₀) (turned t ∙ sym (k .reads) ∙ d)
+            ∙ ap (λ (x : ReadNode). filledWith (nodeIn o x) w₀) (got-on t ∙ sym (k .reads) ∙ d)
 
-        pub fill-goes : (m′ .parent ≡ 0 → ⊥) → length now ≡ length words → (g : Frames) × Fills g q now m′
-        unfolding readStage
-        fill-goes z l =
-            let (g, t) = stage-inside (turn f i) (λ d. z (s .linked ∙ d)) in
-            (g, record { reads = turned t ∙ sym (k .reads); shows = subst (λ (x : Stage). Shows w₀ x now m′) t s; same = l ∙ h .same })
+        pub fill-on : {g : Frames} {d : ℕ} → turn f i ≡ inside g → d ≡ opened g → length now ≡ length words → Fills text w₀ r₀ g q d now m′
+        fill-on t z l = record { stands = stands-on text r₀ (h .stands) e t z; shows = subst (λ (x : Stage). Shows w₀ x now m′) t s; same = l ∙ h .same }
+
+        pub fill-goes : (m′ .parent ≡ 0 → ⊥) → length now ≡ length words → (g : Frames) × Fills text w₀ r₀ g q (opened g) now m′
+        fill-goes z l = let (g, t) = stage-inside (turn f i) (λ d. z (s .linked ∙ d)) in (g, fill-on t refl l)

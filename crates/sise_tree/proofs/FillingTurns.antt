@@ -29,6 +29,16 @@ module _ {w₀ words : List ℕ} {f : Frames} {m : Mark} (h : Shows w₀ (inside
     pub atom-ends : (p ≤ end) × (end < 2 ^ 32) × (end - p ≡ n)
     atom-ends = let e : p + n ≡ end = subst (EndsAt end) t (u .ends) in (omega arith, u .short, omega arith)
 
+    -- it is the atom of the length that its end says
+    by-end : i ≡ Atom p (end - p)
+    by-end = t ∙ ap (Atom p) (sym (atom-ends .2))
+
+    pub atom-fits : Fits (length words) f (Atom p (end - p)) end
+    atom-fits = subst (λ (j : ParsedItem). Fits (length words) f j end) by-end u
+
+    pub atom-told : {now : List ℕ} {m′ : Mark} → Shows w₀ (turn f (Atom p (end - p))) now m′ → Shows w₀ (turn f i) now m′
+    atom-told {now} {m′} x = subst (λ (j : ParsedItem). Shows w₀ (turn f j) now m′) (sym by-end) x
+
     atom-turn : turn f i ≡ attach f (atom p n)
     unfolding turn
     atom-turn = ap (turn f) t
@@ -60,6 +70,12 @@ module _ {w₀ words : List ℕ} {f : Frames} {m : Mark} (h : Shows w₀ (inside
 
   -- a list's start
   module _ {i : ParsedItem} {p end : ℕ} (t : i ≡ ListStart p) (u : Fits (length words) f i end) where
+    pub start-fits : Fits (length words) f (ListStart p) end
+    start-fits = subst (λ (j : ParsedItem). Fits (length words) f j end) t u
+
+    pub start-told : {now : List ℕ} {m′ : Mark} → Shows w₀ (turn f (ListStart p)) now m′ → Shows w₀ (turn f i) now m′
+    start-told {now} {m′} x = subst (λ (j : ParsedItem). Shows w₀ (turn f j) now m′) (sym t) x
+
     start-turn : turn f i ≡ inside (f ▹ empty)
     unfolding turn
     start-turn = ap (turn f) t

@@ -6,6 +6,7 @@ pub mod LocalSteps
 pub mod ReadAgain
 pub mod PathLaws
 pub mod ReadSteps
+pub mod ParseSteps
 pub mod FillingLaws
 pub mod FillingParts
 pub mod Counting
@@ -13,6 +14,7 @@ pub mod FillingTurns
 pub mod Descent
 pub mod ParseLaws
 pub mod FillingLoop
+pub mod FillingPlain
 pub mod ParseCases
 pub mod Walk
 pub mod WalkAtoms
@@ -20,3 +22,10 @@ pub mod CallLaws
 pub mod WalkDepth
 pub mod WalkCalls
 pub mod WalkDoes
+pub mod Measuring
+pub mod Sizes
+pub mod SoundSteps
+pub mod MeasuredTurns
+pub mod MeasuredWalk
+pub mod Drawing
+pub mod DrawWalk

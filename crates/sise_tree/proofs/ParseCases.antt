@@ -21,7 +21,7 @@ use Rattle.sise_tree.specs.declared.parse.ParsedTree.{ParsedTree}
 use Rattle.sise_tree.specs.declared.parse.ParsedTree.the-variants.{Nodes, Refused, UnexpectedListEnd, TextTooLong, TableFull}
 use Rattle.sise_tree.specs.declared.parse.TreeRead.{TreeRead}
 
-abbrev isAnswered : Answer → Bool
+abbrev pub isAnswered : Answer → Bool
 isAnswered (answered n) = true
 isAnswered (refused e) = false
 
@@ -30,7 +30,7 @@ numberIn (answered n) = n
 numberIn (refused e) = 0
 
 -- an answer that is not the first case's
-not-nodes : (a : ParsedTree) → OneOf (1 ∷ 2 ∷ 3 ∷ 4 ∷ []) (tagOf answer.the-type a) → isAnswered (parsedAs a) ≡ false
+pub not-nodes : (a : ParsedTree) → OneOf (1 ∷ 2 ∷ 3 ∷ 4 ∷ []) (tagOf answer.the-type a) → isAnswered (parsedAs a) ≡ false
 not-nodes (Nodes n) h =
     absurd (⊎-elim (λ (e : 0 ≡ 1). omega arith) (⊎-elim (λ (e : 0 ≡ 2). omega arith) (⊎-elim (λ (e : 0 ≡ 3). omega arith) (λ (e : 0 ≡ 4). omega arith))) h)
 not-nodes (Refused e) h = refl
@@ -55,7 +55,7 @@ module _ (text : List ℕ) (r : Reader) (words : List ℕ) where
 
     -- a node was counted
     module _ {x : TreeRead} {k : ℕ} (d : DoesCount (readNode text r) x) (a : x .answer ≡ Nodes k) where
-      was-got : {C : Type 0} → ((n : Node) → readNode text r ≡ got n (x .reader) → k ≡ size n → C) → C
+      pub was-got : {C : Type 0} → ((n : Node) → readNode text r ≡ got n (x .reader) → k ≡ size n → C) → C
       was-got {C} j = go (readNode text r) refl
         where
           same : answered k ≡ counted (readNode text r)

@@ -21,13 +21,13 @@ use Rattle.sise_layout.specs.Calls.{largest, Call, putAtomCall, beginListCall, 
 use Rattle.sise_tree.specs.Tree.{Node, atom, list, Nodes, empty, _then_, depth, kind, first, second, span}
 use Rattle.sise_tree.specs.Decision.{decide}
 use Rattle.sise_tree.specs.SerializeTree.{nodeCalls, rowCalls, atomsHold, atomsHoldAll, fits}
-use Rattle.sise_tree.specs.Writing.{lastCalls, textCalls, turnCall, Ready, closesAt, Passable, Passed, firstAnswer, ended, Checked, Made, whole, broken}
+use Rattle.sise_tree.specs.Writing.{lastCalls, textCalls, turnCall, Ready, closesAt, Passable, Passed, firstAnswer, Checked}
 use Rattle.sise_tree.specs.declared.serialize.Place.{Place}
 use Rattle.sise_tree.proofs.TreeLaws.{size-pos}
 use Rattle.sise_tree.proofs.LocalLaws.{held}
 use Rattle.sise_tree.proofs.Walk.{flat, pending, Walk, walk-start, closes-open, here, closing, opening, passing, pass-less, walk-deep, walk-ended}
 use Rattle.sise_tree.proofs.WalkAtoms.{hold-join}
-use Rattle.sise_tree.proofs.CallLaws.{checked-atom, call-list, call-atom, lists-after, accepted-lists, unpasted, Same, same-start, same-on, same-off}
+use Rattle.sise_tree.proofs.CallLaws.{checked-atom, call-list, call-atom, lists-after, accepted-lists, fits-off, Same, same-start, same-on}
 
 -- the calls of the whole tree are those left at its first node
 all-pending : (text : List ℕ) (t : ℕ) (finish : Bool) (n : Node) → textCalls text t finish n ≡ pending text t t (n then empty) [] (lastCalls finish)
@@ -74,7 +74,7 @@ left-start s text words t finish commit b w ends o k few size z =
     })
 
 -- a node or an open list is left
-goes-more : (i e «open» : ℕ) → (ltb i e || ltb 0 «open») ≡ true → «open» ≡ 0 → i < e
+pub goes-more : (i e «open» : ℕ) → (ltb i e || ltb 0 «open») ≡ true → «open» ≡ 0 → i < e
 goes-more i e «open» g z = split (ltb i e) (λ l. ltb-true i e l) (λ l. absurd (omega (arith, ltb-true 0 «open» (sym (ap (λ (x : Bool). x || ltb 0 «open») l) ∙ g))))
 
 neither : (x y : Bool) → (x || y) ≡ false → (x ≡ false) × (y ≡ false)
@@ -88,11 +88,6 @@ module _ {s : Style} {text words : List ℕ} {t : ℕ} {finish commit : Bool} {b
 
   abbrev rest : List Call
   rest = pending text a t (h .inner) (h .outer) (lastCalls finish)
-
-  -- the tree is the one that the table holds
-  pub as-held : {n : Node} → decide (length text) words ≡ some n → {v : Serializer} {now : List ℕ} {r : writer.Answer}
-      → Made s w₀ (depth (h .tree)) calls commit b₀ v now r → Made s w₀ (depth n) (textCalls text t finish n) commit b₀ v now r
-  as-held d m = rw (Option·some-injective _ _ (sym (h .decided) ∙ d)) at m
 
   pub left-few : w₀ .lists + «open» ≤ deepest
   left-few = h .walk .few
@@ -135,21 +130,14 @@ module _ {s : Style} {text words : List ℕ} {t : ℕ} {finish commit : Bool} {b
           ∙ answer ∙ ap writer.Answer.accepted (sym (rw z at q)))
           (λ z. h .offset (omega (arith, eqb-false i 0 z)) ∙ ap writer.Answer.accepted (sym (rw z at q)))
 
-    -- or refused
-    pub left-broken : {n : ℕ} → answerAs (r .answer) ≡ writer.Answer.refused n → Made s w₀ (depth (h .tree)) calls commit b₀ (joined (r .progress) flags) now (answerAs (r .answer))
-    left-broken {n} q =
-        let k = same-off (rw due at (h .same)) (made .serializer) (made .buffer) (sym (made .answer) ∙ q) in
-        rw q (broken (k .0) (k .1))
-
   -- ---- the turns of the walk
 
-  module _ {closes : Bool} (told : closes ≡ closesAt ends «open» i) (g : (ltb i e || ltb 0 «open») ≡ true) {r : Step} {flags : List Bool} {now : List ℕ}
-      (made : Steps (step s (length b) w (turnCall closes text words a t i)) w commit b r flags now) where
+  module _ {closes : Bool} (told : closes ≡ closesAt ends «open» i) (g : «open» ≡ 0 → i < e) where
     -- the turn's call is the first of those left
     as-turn : (x : Call) {cs : List Call} → turnCall closes text words a t i ≡ x → rest ≡ x ∷ cs → (ds : List Call) × (rest ≡ turnCall closes text words a t i ∷ ds)
     as-turn x {cs} k due = (cs, due ∙ ap (λ (y : Call). y ∷ cs) (sym k))
 
-    turn-due : (cs : List Call) × (rest ≡ turnCall closes text words a t i ∷ cs)
+    pub turn-due : (cs : List Call) × (rest ≡ turnCall closes text words a t i ∷ cs)
     turn-due =
         split closes
         (λ k. as-turn endListCall (ap (λ (z : Bool). turnCall z text words a t i) k) (closing (h .inner) (h .outer) (h .walk) (sym told ∙ k) .calls text a t (lastCalls finish)))
@@ -158,14 +146,17 @@ module _ {s : Style} {text words : List ℕ} {t : ℕ} {finish commit : Bool} {b
         split (eqb (kind words i) 0)
         (λ z.
         as-turn (beginListCall t) (node ∙ call-list text words a t i (eqb-true _ _ z))
-        (opening (h .inner) (h .outer) {v = i + span words i} (h .walk) (sym told ∙ k) (goes-more i e «open» g) (eqb-true _ _ z) refl .calls text a t (lastCalls finish)))
+        (opening (h .inner) (h .outer) {v = i + span words i} (h .walk) (sym told ∙ k) g (eqb-true _ _ z) refl .calls text a t (lastCalls finish)))
         (λ z.
         as-turn (putAtomCall (partOf text (first words i) (second words i)) a) (node ∙ call-atom text words a t i (eqb-false _ _ z))
-        (passing (h .inner) (h .outer) (h .walk) (sym told ∙ k) (goes-more i e «open» g) (eqb-false _ _ z) .calls text a t (lastCalls finish))))
+        (passing (h .inner) (h .outer) (h .walk) (sym told ∙ k) g (eqb-false _ _ z) .calls text a t (lastCalls finish))))
 
-    pub turn-broken : {n : ℕ} → answerAs (r .answer) ≡ writer.Answer.refused n → Made s w₀ (depth (h .tree)) calls commit b₀ (joined (r .progress) flags) now (answerAs (r .answer))
-    turn-broken q = left-broken (turn-due .1) made q
+    -- if it is refused the calls do not fit
+    pub turn-off : {n : ℕ} → step s (length b₀) w (turnCall closes text words a t i) .answer ≡ writer.Answer.refused n → fits s (length b₀) w₀ calls ≡ false
+    turn-off q = let (cs, due) = turn-due in sym (h .same .fit) ∙ ap (fits s (length b₀) w) due ∙ fits-off s (length b₀) w (turnCall closes text words a t i) cs q
 
+  module _ {closes : Bool} (told : closes ≡ closesAt ends «open» i) (g : (ltb i e || ltb 0 «open») ≡ true) {r : Step} {flags : List Bool} {now : List ℕ}
+      (made : Steps (step s (length b) w (turnCall closes text words a t i)) w commit b r flags now) where
     module _ {at x : ℕ} (accepted : answerAs (r .answer) ≡ writer.Answer.accepted at) (keeps : length now ≡ length b) (q : x ≡ cond (eqb i 0) at o) where
       turn-close : closes ≡ true → Left s text words t finish commit b₀ w₀ e now (joined (r .progress) flags) ends («open» - 1) i t x
       turn-close k =
@@ -260,36 +251,8 @@ module _ {s : Style} {text words : List ℕ} {t : ℕ} {finish commit : Bool} {b
   -- ---- the end of the walk
 
   module _ (g : (ltb i e || ltb 0 «open») ≡ false) where
-    at-end : (e ≤ i) × («open» ≡ 0)
+    pub at-end : (e ≤ i) × («open» ≡ 0)
     at-end = let k = neither (ltb i e) (ltb 0 «open») g in (ltb-false i e (k .0), omega (arith, ltb-false 0 «open» (k .1)))
 
-    last-due : rest ≡ lastCalls finish
+    pub last-due : rest ≡ lastCalls finish
     last-due = walk-ended (h .inner) (h .outer) (h .walk) (at-end .0) (at-end .1) text a t (lastCalls finish)
-
-    all-made : {v : Serializer} {now : List ℕ} → Same s commit b₀ w₀ calls now v [] → Made s w₀ (depth (h .tree)) calls commit b₀ v now (writer.Answer.accepted o)
-    unfolding fits run
-    all-made k =
-        whole (walk-deep (h .inner) (h .outer) (h .walk) (at-end .0)) (sym (k .fit)) (h .offset (omega (arith, h .nonempty, at-end .0)))
-        (λ c. (k .last c, k .buffer c)) (k .kept)
-
-    last-made : (wished : Bool) → finish ≡ wished → {r : Step} {flags : List Bool} {now : List ℕ} → Steps (ended s (length b) w wished o) w commit b r flags now → length now ≡ length b
-        → Made s w₀ (depth (h .tree)) calls commit b₀ (joined (r .progress) flags) now (answerAs (r .answer))
-    unfolding ended step
-    last-made false f {r} {flags} {now} made keeps =
-        let due : rest ≡ [] = last-due ∙ ap lastCalls f in
-        let same : now ≡ b = made .buffer ∙ unpasted commit b (w .position) in
-        rw (made .serializer, made .answer, same) (all-made (rw due at (h .same)))
-    last-made true f {r} {flags} {now} made keeps = of (finishWriting s (length b) w true .answer) refl
-      where
-        due : rest ≡ finishCall true ∷ []
-        due = last-due ∙ ap lastCalls f
-
-        of : (x : writer.Answer) → finishWriting s (length b) w true .answer ≡ x → Made s w₀ (depth (h .tree)) calls commit b₀ (joined (r .progress) flags) now (answerAs (r .answer))
-        of (writer.Answer.accepted at) q = rw (made .answer, q) (all-made (same-on (rw due at (h .same)) (made .serializer) (made .buffer) q keeps))
-        of (writer.Answer.refused n) q =
-            let k = same-off (rw due at (h .same)) (made .serializer) (made .buffer) q in
-            rw (made .answer, q) (broken (k .0) (k .1))
-
-    pub left-last : {r : Step} {flags : List Bool} {now : List ℕ} → Steps (ended s (length b) w finish o) w commit b r flags now → length now ≡ length b
-        → Made s w₀ (depth (h .tree)) calls commit b₀ (joined (r .progress) flags) now (answerAs (r .answer))
-    left-last made keeps = last-made finish refl made keeps

@@ -1,18 +1,22 @@
 -- What the private functions of parse_tree do: the node that is due is counted, and then filled into the table, item after item.
 -- Assumes nothing.
-use Prim.Native.Nat.{ℕ, _+_, _*_, _/_, _^_, _≤_, _<_}
+use Prim.Native.Nat.{ℕ, suc, _+_, _*_, _/_, _^_, _≤_, _<_}
 use mathlib.Core.Path.{_≡_}
+use mathlib.Core.Bool.{true}
 use mathlib.Core.List.{List, [], _∷_, _++_}
 use lib.ListN.{length, take, drop}
 use Rattle.sise_parser.specs.Reader as reader
+use Rattle.sise_parser.specs.declared.reader.Phase.{Phase}
 use Rattle.sise_parser.specs.declared.reader.Reader.{Reader}
 use Rattle.sise_parser.specs.declared.reader.ParsedItem.{ParsedItem}
 use Rattle.sise_parser.specs.declared.reader.ParsedItem.the-variants.{Atom, ListStart, ListEnd}
 use Rattle.sise_tree.specs.Tree.{Node, list, Nodes, size, sizes, children, table, tables}
 use Rattle.sise_tree.specs.Answers.{Answer, answered, refused, parsedAs}
-use Rattle.sise_tree.specs.ParseTree.{longest, Frames, top, _▹_, Stage, inside, whole, closes, attach, turn, ReadNode, got, stopped, readNode, filledWith}
+use Rattle.sise_tree.specs.ParseTree.{longest, Frames, top, _▹_, Stage, inside, whole, closes, attach, turn, ReadNode, got, stopped, readFrom, readNode, filledWith}
 use Rattle.sise_tree.specs.declared.parse.TreeRead.{TreeRead}
+use Rattle.sise_tree.specs.declared.parse.Counted.{Counted}
 use Rattle.sise_tree.specs.declared.parse.Mark.{Mark}
+use Rattle.sise_tree.specs.declared.parse.Filled.{Filled}
 
 -- ---- counting
 
@@ -34,12 +38,40 @@ pub record DoesCount (d : ReadNode) (r : TreeRead) : Type 0 where
   pub reader : r .reader ≡ readerOf d
   pub answer : parsedAs (r .answer) ≡ counted d
 
--- ---- filling
+-- the lists that are open, and the nodes so far
+unfoldable pub opened : Frames → ℕ
+opened top = 0
+opened (f ▹ c) = opened f + 1
 
--- the nodes so far
 unfoldable pub filled : Frames → ℕ
 filled top = 0
 filled (f ▹ c) = filled f + (1 + sizes c)
+
+-- reading on from r with these lists open is reading the node that was due at r₀; inside a list the record is a sound one
+pub record Stands (text : List ℕ) (r₀ : Reader) (f : Frames) (r : Reader) (depth : ℕ) : Type 0 where
+  pub reads : readFrom (suc (length text)) text r f ≡ readNode text r₀
+  pub deep : depth ≡ opened f
+  pub listed : r .lists ≡ r₀ .lists + depth
+  pub sound : (depth ≡ 0 → ⊥) → reader.isSound (length text) r ≡ true
+
+-- and there are so many nodes
+pub record Counts (text : List ℕ) (r₀ : Reader) (f : Frames) (r : Reader) (depth nodes : ℕ) : Type 0 where
+  pub stands : Stands text r₀ f r depth
+  pub many : nodes ≡ filled f
+  pub early : nodes ≤ r .position
+
+-- a record with so many lists more than r₀
+abbrev pub readerAt : Reader → ℕ → Phase → ℕ → Reader
+readerAt r₀ p h depth = reader.reader p h (r₀ .lists + depth)
+
+-- what was counted before is counted on
+abbrev pub CountsAt : List ℕ → Reader → Phase → Frames → Counted → Type 0
+CountsAt text r₀ h f c = Counts text r₀ f (readerAt r₀ (c .position) h (c .depth)) (c .depth) (c .nodes)
+
+abbrev pub CountsOn : List ℕ → Counted → Counted → Type 0
+CountsOn text before c = (r₀ : Reader) (h : Phase) (f : Frames) → CountsAt text r₀ h f before → (g : Frames) × CountsAt text r₀ h g c
+
+-- ---- filling
 
 -- the innermost list's index and one, or 0 for none: what a list inside it has for its third word while that is open
 unfoldable pub link : Frames → ℕ
@@ -102,6 +134,9 @@ pub record Shows (w₀ : List ℕ) (s : Stage) (words : List ℕ) (m : Mark) : T
   pub nexts : m .next ≡ filledIn s
   pub linked : m .parent ≡ linkIn s
 
+abbrev pub mark : ℕ → ℕ → Mark
+mark i p = record { next = i; parent = p }
+
 -- an atom ends at e
 abbrev pub EndsAt : ℕ → ParsedItem → Type 0
 EndsAt e (Atom p n) = p + n ≡ e
@@ -122,6 +157,13 @@ CanTurn words m i e = (w₀ : List ℕ) × (f : Frames) × Shows w₀ (inside f)
 abbrev pub Turns : List ℕ → Mark → ParsedItem → ℕ → Mark → List ℕ → Type 0
 Turns words m i e r now = (w₀ : List ℕ) (f : Frames) → Shows w₀ (inside f) words m → Fits (length words) f i e → Shows w₀ (turn f i) now r
 
+-- a list's start, wherever it stands
+abbrev pub CanStart : List ℕ → Mark → Type 0
+CanStart words m = (p : ℕ) × (e : ℕ) × CanTurn words m (ListStart p) e
+
+abbrev pub Starts : List ℕ → Mark → Mark → List ℕ → Type 0
+Starts words m r now = (p e : ℕ) → Turns words m (ListStart p) e r now
+
 -- the node that is due is known to be one, and to have room
 pub record Fillable (text : List ℕ) (r : Reader) (words : List ℕ) (n : Node) (q : Reader) : Type 0 where
   pub short : length text ≤ longest
@@ -133,3 +175,24 @@ CanFill text r words = (n : Node) × (q : Reader) × Fillable text r words n q
 
 abbrev pub DoesFill : List ℕ → Reader → List ℕ → List ℕ → Type 0
 DoesFill text r words now = (n : Node) (q : Reader) → readNode text r ≡ got n q → now ≡ filledWith n words
+
+-- the filling of a node stands inside it: the table, which had the words w₀, stands for the open lists
+pub record Fills (text w₀ : List ℕ) (r₀ : Reader) (f : Frames) (r : Reader) (depth : ℕ) (words : List ℕ) (m : Mark) : Type 0 where
+  pub stands : Stands text r₀ f r depth
+  pub shows : Shows w₀ (inside f) words m
+  pub same : length words ≡ length w₀
+
+-- a filling of a node that is known
+pub record Filling (text w₀ : List ℕ) (r₀ : Reader) (n : Node) (q : Reader) (h : Phase) (f : Frames) (words : List ℕ) (c : Filled) : Type 0 where
+  pub known : Fillable text r₀ w₀ n q
+  pub some : c .depth ≡ 0 → ⊥
+  pub fills : Fills text w₀ r₀ f (readerAt r₀ (c .position) h (c .depth)) (c .depth) words (mark (c .next) (c .parent))
+
+abbrev pub CanFillOn : List ℕ → List ℕ → Filled → Type 0
+CanFillOn text words c =
+    (w₀ : List ℕ) × (r₀ : Reader) × (n : Node) × (q : Reader) × (h : Phase) × (f : Frames) × Filling text w₀ r₀ n q h f words c
+
+abbrev pub FillsOn : List ℕ → List ℕ → Filled → Filled → List ℕ → Type 0
+FillsOn text words before c now =
+    (w₀ : List ℕ) (r₀ : Reader) (n : Node) (q : Reader) (h : Phase) (f : Frames)
+    → Filling text w₀ r₀ n q h f words before → (g : Frames) × Filling text w₀ r₀ n q h g now c

@@ -2,6 +2,7 @@ pub mod Tree
 pub mod Decision
 pub mod Answers
 pub mod ParseTree
+pub mod ParseText
 pub mod IndexPath
 pub mod SerializeTree
 pub mod Parts
@@ -9,6 +10,8 @@ pub mod Descent
 pub mod Alike
 pub mod Rows
 pub mod Writing
+pub mod Measuring
+pub mod Drawing
 pub mod TableExamples
 pub mod Filling
 pub mod ParseExamples

@@ -121,3 +121,8 @@ pub record DoesWrite (d : Writes) (r : TreeWrote) (now : List ℕ) : Type 0 wher
   pub serializer : r .serializer ≡ d .serializer
   pub answer : putAs (r .answer) ≡ d .answer
   pub buffer : now ≡ d .buffer
+
+-- what a call promises that writes nothing and ended with the result r: record and answer are as d says
+pub record DoesMeasure (d : Writes) (r : TreeWrote) : Type 0 where
+  pub serializer : r .serializer ≡ d .serializer
+  pub answer : putAs (r .answer) ≡ d .answer

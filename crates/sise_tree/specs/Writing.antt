@@ -6,8 +6,9 @@ use mathlib.Core.Bool.{Bool, true, false, _&&_, cond}
 use mathlib.Core.Option.{some}
 use mathlib.Core.List.{List, [], _∷_, _++_}
 use lib.Dec.{leb, ltb, eqb}
-use lib.ListN.{length, getD, drop, set}
+use lib.ListN.{length, getD, take, drop, set}
 use Rattle.sise_util.specs.Atom.{isAtom, isAtomPrefix}
+use Rattle.sise_parser.specs.Plain.{atomRun}
 use Rattle.sise_parser.specs.Reader.{partOf}
 use Rattle.sise_serializer.specs.Serializer as writer
 use Rattle.sise_serializer.specs.Serializer.{Style, Written, deepest, finishWriting}
@@ -32,6 +33,10 @@ textCalls text t false = treeCalls text t
 pub record InTable (text words : List ℕ) (i : ℕ) : Type 0 where
   pub there : 4 * (i + 1) ≤ length words
   pub inText : kind words i ≡ 1 → first words i + second words i ≤ length text
+
+-- the n bytes from p on are one atom character or more
+unfoldable pub isPlain : List ℕ → ℕ → ℕ → Bool
+isPlain text p n = ltb 0 n && eqb (atomRun (take n (drop p text)) 0) n
 
 -- node i, if an atom, is one
 unfoldable pub atomHoldsAt : List ℕ → List ℕ → ℕ → Bool
@@ -76,23 +81,7 @@ unfoldable pub firstAnswer : Style → ℕ → Serializer → List Call → writ
 firstAnswer s room w [] = writer.Answer.refused 22
 firstAnswer s room w (c ∷ cs) = step s room w c .answer
 
--- the end of a walk whose first call's offset is o: nothing, or a finish with a line break, whose offset is not told
-unfoldable pub ended : Style → ℕ → Serializer → Bool → ℕ → Written
-ended s room w false o = record { serializer = w; answer = writer.Answer.accepted o; bytes = [] }
-ended s room w true o =
-    let d = finishWriting s room w true in
-    record { serializer = d .serializer; answer = cond (isAccepted (d .answer)) (writer.Answer.accepted o) (d .answer); bytes = d .bytes }
-
 -- the table holds a tree, whose atoms were checked
 pub record Checked (text words : List ℕ) : Type 0 where
   pub holds : isSome (decide (length text) words) ≡ true
   pub atoms : (n : Node) → decide (length text) words ≡ some n → atomsHold text n ≡ true
-
--- what making a tree's calls promises, that began with the record w and the buffer `before`, and ended with the record v and the buffer `now`, by its
--- answer: all of them are made, and written if they commit, or one is refused. deep is the tree's depth
-pub data Made (s : Style) (w : Serializer) (deep : ℕ) (cs : List Call) (commit : Bool) (before : List ℕ) (v : Serializer) (now : List ℕ) : writer.Answer → Type 0 where
-  whole : {o : ℕ} → ltb deepest (w .lists + deep) ≡ false → fits s (length before) w cs ≡ true
-      → firstAnswer s (length before) w cs ≡ writer.Answer.accepted o
-      → (commit ≡ true → (v ≡ run s before w cs .last) × (now ≡ run s before w cs .buffer)) → (commit ≡ false → now ≡ before)
-      → Made s w deep cs commit before v now (writer.Answer.accepted o)
-  broken : {n : ℕ} → fits s (length before) w cs ≡ false → (commit ≡ false → now ≡ before) → Made s w deep cs commit before v now (writer.Answer.refused n)

@@ -5,13 +5,18 @@ use sise_parser::Answer;
 use sise_parser::ParseError;
 use sise_parser::ParsedItem;
 use sise_parser::Reader;
+use sise_parser::atom_run;
+use sise_parser::is_quote_at;
+use sise_parser::item_ahead;
+use sise_parser::skip_blanks;
 ghost use mathlib.Core.Path.{_≡_};
-ghost use Prim.Native.Nat.{_<_, _/_};
+ghost use Prim.Native.Nat.{_≤_, _<_, _+_, _-_, _/_};
 ghost use lib.ListN.{length};
 ghost use Rattle.sise_parser.specs.Meaning.{answerAs};
+ghost use Rattle.sise_parser.specs.declared.reader.ParsedItem.the-variants.{Atom};
 ghost use Rattle.sise_tree.specs.Answers.{parsedAs, numberOf, placeOf, codeOf};
 ghost use Rattle.sise_tree.specs.ParseTree.{readNode, parseTree, DoesParse};
-ghost use Rattle.sise_tree.specs.Filling.{settledAs, DoesCount, putAt, CanAttach, Attaches, CanClose, Closes, CanTurn, Turns, CanFill, DoesFill};
+ghost use Rattle.sise_tree.specs.Filling.{settledAs, DoesCount, CountsOn, mark, putAt, CanAttach, Attaches, CanClose, Closes, CanTurn, Turns, CanStart, Starts, CanFill, DoesFill, CanFillOn, FillsOn};
 
 // What parse_tree answers: the number of nodes, or a refusal.
 pub enum ParsedTree {
@@ -71,7 +76,7 @@ pub struct TreeRead {
     pub answer: ParsedTree,
 }
 
-// The same record, copied field by field as next_item wrote it, which is faster than a copy of the whole.
+// The same record, copied field by field as item_ahead wrote it, which is faster than a copy of the whole.
 fn renewed(r: Reader) -> Reader
     ensures { λ s. ⌜ s ≡ r ⌝ }
 {
@@ -94,15 +99,77 @@ fn settled(answer: Answer, nodes: usize) -> ParsedTree
     }
 }
 
+// Where the counting stands: the reader's position, how many of the node's lists are open, and how many nodes there were.
+struct Counted {
+    position: usize,
+    depth: usize,
+    nodes: usize,
+}
+
+// Counts on while the tokens are plain: a `(`, a `)` that does not end the node, or an atom without strings. Any other is left to item_ahead.
+fn count_plain(text: &[u8], before: Counted) -> Counted
+    requires { ⌜ (before .depth ≤ before .nodes) × (before .nodes ≤ before .position) ⌝ }
+    ensures on { λ r. ⌜ CountsOn (now (text .entry)) before r ⌝ }
+    ensures after { λ r. ⌜ before .position ≤ r .position ⌝ }
+{
+    if before.depth == 0 {
+        return before;
+    }
+    let mut position = before.position;
+    let mut depth = before.depth;
+    let mut nodes = before.nodes;
+    loop {
+        let start = skip_blanks(text, position);
+        if text.len() <= start {
+            break;
+        }
+        let byte = text[start];
+        if byte == b'(' {
+            position = start + 1;
+            depth += 1;
+            nodes += 1;
+        } else if byte == b')' {
+            if depth == 1 {
+                break;
+            }
+            position = start + 1;
+            depth -= 1;
+        } else {
+            let end = atom_run(text, start);
+            if end == start || is_quote_at(text, end) {
+                break;
+            }
+            position = end;
+            nodes += 1;
+        }
+    }
+    Counted {
+        position,
+        depth,
+        nodes,
+    }
+}
+
 // Reads the node that is due and counts its nodes.
-fn count_nodes(text: &[u8], reader: Reader) -> TreeRead
+pub(crate) fn count_nodes(text: &[u8], reader: Reader) -> TreeRead
     ensures { λ r. ⌜ DoesCount (readNode (now (text .entry)) reader) r ⌝ }
 {
     let mut r = reader;
     let mut depth: usize = 0;
     let mut nodes: usize = 0;
     let answer = loop {
-        let next = r.next_item(text);
+        let run = count_plain(
+            text,
+            Counted {
+                position: r.position,
+                depth,
+                nodes,
+            },
+        );
+        depth = run.depth;
+        nodes = run.nodes;
+        let phase = r.phase;
+        let next = item_ahead(run.position, phase, reader.lists + depth, text);
         let answer = next.answer;
         let after = next.reader;
         r = renewed(after);
@@ -179,8 +246,26 @@ fn close_list(table: &mut [u32], next: u32, parent: u32) -> u32
     link
 }
 
-// The words of an item that ends at `end` are written. While a list is open, its third word is the link to its parent. An atom's length is worked out,
-// since place and length, read together where next_item wrote them one by one, would cost more.
+// An atom from `pos` to `end` is written, and counted as a child.
+fn put_atom(table: &mut [u32], next: u32, parent: u32, pos: usize, end: usize)
+    requires { ⌜ CanTurn (now table) (mark next parent) (Atom pos (end - pos)) end ⌝ }
+    ensures { λ r. ⌜ Turns (now (table .entry)) (mark next parent) (Atom pos (end - pos)) end (mark (next + 1) parent) (now (table .exit)) ⌝ }
+{
+    let len = end - pos;
+    put(table, wide(next), 1, pos as u32, len as u32, 1);
+    count_child(table, parent);
+}
+
+// A list that begins is written. While it is open, its third word is the link to its parent.
+fn put_start(table: &mut [u32], next: u32, parent: u32)
+    requires { ⌜ CanStart (now table) (mark next parent) ⌝ }
+    ensures { λ r. ⌜ Starts (now (table .entry)) (mark next parent) (mark (next + 1) (next + 1)) (now (table .exit)) ⌝ }
+{
+    put(table, wide(next), 0, 0, parent, 0);
+}
+
+// An item that ends at `end` is written. An atom's length is worked out from it, since place and length, read together where item_ahead wrote them one by
+// one, would cost more.
 fn put_item(table: &mut [u32], mark: Mark, item: ParsedItem, end: usize) -> Mark
     requires { ⌜ CanTurn (now table) mark item end ⌝ }
     ensures { λ r. ⌜ Turns (now (table .entry)) mark item end r (now (table .exit)) ⌝ }
@@ -189,16 +274,14 @@ fn put_item(table: &mut [u32], mark: Mark, item: ParsedItem, end: usize) -> Mark
     let parent = mark.parent;
     match item {
         ParsedItem::Atom { pos, .. } => {
-            let len = end - pos;
-            put(table, wide(next), 1, pos as u32, len as u32, 1);
-            count_child(table, parent);
+            put_atom(table, next, parent, pos, end);
             Mark {
                 next: next + 1,
                 parent,
             }
         }
         ParsedItem::ListStart { .. } => {
-            put(table, wide(next), 0, 0, parent, 0);
+            put_start(table, next, parent);
             Mark {
                 next: next + 1,
                 parent: next + 1,
@@ -211,15 +294,71 @@ fn put_item(table: &mut [u32], mark: Mark, item: ParsedItem, end: usize) -> Mark
     }
 }
 
+// Where the filling and its reader stand: the position, how many of the node's lists are open, and the mark's fields.
+struct Filled {
+    position: usize,
+    depth: usize,
+    next: u32,
+    parent: u32,
+}
+
+// Writes on while the tokens are plain, as count_plain counts.
+fn fill_plain(text: &[u8], table: &mut [u32], before: Filled) -> Filled
+    requires { ⌜ CanFillOn (now text) (now table) before ⌝ }
+    ensures on { λ r. ⌜ FillsOn (now (text .entry)) (now (table .entry)) before r (now (table .exit)) ⌝ }
+    ensures after { λ r. ⌜ before .position ≤ r .position ⌝ }
+{
+    let mut position = before.position;
+    let mut depth = before.depth;
+    let mut next = before.next;
+    let mut parent = before.parent;
+    loop {
+        let start = skip_blanks(text, position);
+        if text.len() <= start {
+            break;
+        }
+        let byte = text[start];
+        if byte == b'(' {
+            put_start(table, next, parent);
+            position = start + 1;
+            depth += 1;
+            next += 1;
+            parent = next;
+        } else if byte == b')' {
+            if depth == 1 {
+                break;
+            }
+            parent = close_list(table, next, parent);
+            position = start + 1;
+            depth -= 1;
+        } else {
+            let end = atom_run(text, start);
+            if end == start || is_quote_at(text, end) {
+                break;
+            }
+            put_atom(table, next, parent, start, end);
+            position = end;
+            next += 1;
+        }
+    }
+    Filled {
+        position,
+        depth,
+        next,
+        parent,
+    }
+}
+
 // Reads a node again, which is known to be one and to have room, and writes its words.
-fn fill_nodes(text: &[u8], reader: Reader, table: &mut [u32])
+pub(crate) fn fill_nodes(text: &[u8], reader: Reader, table: &mut [u32])
     requires { ⌜ CanFill (now text) reader (now table) ⌝ }
     ensures { λ r. ⌜ DoesFill (now (text .entry)) reader (now (table .entry)) (now (table .exit)) ⌝ }
 {
     let mut r = reader;
     let mut mark = Mark { next: 0, parent: 0 };
     loop {
-        let next = r.next_item(text);
+        let phase = r.phase;
+        let next = item_ahead(r.position, phase, r.lists, text);
         let answer = next.answer;
         let after = next.reader;
         r = renewed(after);
@@ -230,6 +369,26 @@ fn fill_nodes(text: &[u8], reader: Reader, table: &mut [u32])
         if mark.parent == 0 {
             return;
         }
+        let run = fill_plain(
+            text,
+            table,
+            Filled {
+                position: r.position,
+                depth: r.lists - reader.lists,
+                next: mark.next,
+                parent: mark.parent,
+            },
+        );
+        mark = Mark {
+            next: run.next,
+            parent: run.parent,
+        };
+        let phase = r.phase;
+        r = Reader {
+            position: run.position,
+            phase,
+            lists: reader.lists + run.depth,
+        };
     }
 }
 

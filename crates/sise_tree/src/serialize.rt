@@ -1,33 +1,35 @@
 // The tree that a table holds, written by the writer's calls. A first walk makes all the calls without writing, so that a refusal leaves the buffer.
+use crate::measure::Measured;
+use crate::measure::measure_nodes;
 use crate::tree::LONGEST;
 use crate::tree::holds_tree;
 use crate::tree::wide;
+use crate::write::write_nodes;
 use sise_parser::atom_bytes;
+use sise_parser::atom_run;
 use sise_serializer::Flags;
 use sise_serializer::Phase;
 use sise_serializer::Progress;
-use sise_serializer::Put;
 use sise_serializer::Serializer;
 use sise_serializer::Step;
 use sise_serializer::begin_step;
-use sise_serializer::end_step;
-use sise_serializer::finish_step;
 use sise_serializer::put_step;
 use sise_util::check_atom_prefix;
 ghost use mathlib.Core.Path.{_≡_};
 ghost use mathlib.Core.Bool.{true, false, _||_, cond};
 ghost use mathlib.Core.Option.{some};
-ghost use Prim.Native.Nat.{_+_, _*_, _≤_};
+ghost use mathlib.Core.List.{List};
+ghost use Prim.Native.Nat.{ℕ, _+_, _*_, _≤_};
 ghost use lib.Dec.{ltb, eqb};
 ghost use lib.ListN.{length};
-ghost use Rattle.sise_serializer.specs.Serializer.{style, answerAs, deepest};
+ghost use Rattle.sise_serializer.specs.Serializer.{style, isSound, deepest};
 ghost use Rattle.sise_serializer.specs.Steps.{joined, Steps};
 ghost use Rattle.sise_layout.specs.Calls.{largest, step};
 ghost use Rattle.sise_tree.specs.Tree.{Node, depth};
 ghost use Rattle.sise_tree.specs.Decision.{decide, isSome};
 ghost use Rattle.sise_tree.specs.Answers.{putAs, numberOf};
-ghost use Rattle.sise_tree.specs.SerializeTree.{atomsHold, isOver, writeNode, writeTree, serializeTree, DoesWrite};
-ghost use Rattle.sise_tree.specs.Writing.{textCalls, InTable, atomHoldsAt, closesAt, isFull, Passable, Passed, Ready, callAt, turnCall, ended, Checked, Made};
+ghost use Rattle.sise_tree.specs.SerializeTree.{atomsHold, isOver, writeNode, writeTree, serializeTree, DoesWrite, DoesMeasure};
+ghost use Rattle.sise_tree.specs.Writing.{textCalls, InTable, isPlain, atomHoldsAt, closesAt, isFull, Passable, Passed, Ready, callAt, Checked};
 
 // The largest threshold: no line is that long.
 const LARGEST: u64 = 18446744073709551615;
@@ -72,7 +74,7 @@ impl PutTree {
 }
 
 // Whether no item may follow.
-fn is_over(phase: Phase) -> bool
+pub(crate) fn is_over(phase: Phase) -> bool
     ensures { λ r. ⌜ r ≡ isOver phase ⌝ }
 {
     match phase {
@@ -81,6 +83,18 @@ fn is_over(phase: Phase) -> bool
         Phase::Finished => true,
         Phase::Done => true,
     }
+}
+
+// Whether the `len` bytes from `place` on, which lie in the text, are one atom character or more: an atom with no string in it, as most are. It spares
+// them the longer check.
+fn is_plain(text: &[u8], place: usize, len: usize) -> bool
+    requires { ⌜ place + len ≤ length (now text) ⌝ }
+    ensures { λ r. ⌜ r ≡ isPlain (now (text .entry)) place len ⌝ }
+{
+    if len == 0 {
+        return false;
+    }
+    atom_run(&text[place..place + len], 0) == len
 }
 
 // Whether node `i`, if an atom, is one.
@@ -92,7 +106,11 @@ fn atom_holds(text: &[u8], table: &[u32], i: usize) -> bool
         return true;
     }
     let place = wide(table[4 * i + 1]);
-    check_atom_prefix(&text[place..], wide(table[4 * i + 2]))
+    let len = wide(table[4 * i + 2]);
+    if is_plain(text, place, len) {
+        return true;
+    }
+    check_atom_prefix(&text[place..], len)
 }
 
 // Whether each atom of the tree is one.
@@ -112,7 +130,7 @@ fn atoms_hold(text: &[u8], table: &[u32]) -> bool
 }
 
 // Whether the innermost of `open` open lists ends at node `i`; `ends` holds where each ends.
-fn closes_at(ends: &[usize; 200], open: usize, i: usize) -> bool
+pub(crate) fn closes_at(ends: &[usize; 200], open: usize, i: usize) -> bool
     requires { ⌜ «open» ≤ 200 ⌝ }
     ensures { λ r. ⌜ r ≡ closesAt (now (ends .entry)) «open» i ⌝ }
 {
@@ -130,7 +148,13 @@ pub struct Place {
 }
 
 // Goes on past a call: the innermost list is closed, or node `i` is passed. If it is a list it is open from then on, and its end is kept.
-fn pass(table: &[u32], ends: &mut [usize; 200], open: usize, i: usize, closes: bool) -> Place
+pub(crate) fn pass(
+    table: &[u32],
+    ends: &mut [usize; 200],
+    open: usize,
+    i: usize,
+    closes: bool,
+) -> Place
     requires { ⌜ Passable (now table) «open» i closes ⌝ }
     ensures { λ r. ⌜ Passed (now (table .entry)) (now (ends .entry)) «open» i closes r (now (ends .exit)) ⌝ }
 {
@@ -157,7 +181,7 @@ fn pass(table: &[u32], ends: &mut [usize; 200], open: usize, i: usize, closes: b
 }
 
 // Whether node `i` is a list that would be one too many, where `lists` are open.
-fn is_full(table: &[u32], i: usize, closes: bool, lists: usize) -> bool
+pub(crate) fn is_full(table: &[u32], i: usize, closes: bool, lists: usize) -> bool
     requires { ⌜ (closes ≡ false → 4 * (i + 1) ≤ length (now table)) ⌝ }
     ensures { λ r. ⌜ r ≡ isFull (now (table .entry)) i closes lists ⌝ }
 {
@@ -192,7 +216,7 @@ fn too_deep(text_len: usize, table: &[u32], lists: usize) -> bool
 }
 
 // The call of node `i`: its atom at the threshold `atom_at`, or the start of its list.
-fn node_step(
+pub(crate) fn node_step(
     progress: Progress,
     flags: &mut Flags,
     line_break: &[u8],
@@ -232,44 +256,8 @@ fn node_step(
     )
 }
 
-// One call of a walk: the end of the innermost list, or node `i`'s.
-fn turn(
-    progress: Progress,
-    flags: &mut Flags,
-    line_break: &[u8],
-    indentation: &[u8],
-    buf: &mut [u8],
-    text: &[u8],
-    table: &[u32],
-    i: usize,
-    closes: bool,
-    atom_at: u64,
-    break_line_at: u64,
-    commit: bool,
-) -> Step
-    requires { ⌜ (closes ≡ false → Ready (now text) (now table) i) ⌝ }
-    ensures { λ r. ⌜ Steps (step (style (now («line_break» .entry)) (now (indentation .entry))) (length (now (buf .entry))) (joined progress (now (flags .entry))) (turnCall closes (now (text .entry)) (now (table .entry)) «atom_at» «break_line_at» i)) (joined progress (now (flags .entry))) commit (now (buf .entry)) r (now (flags .exit)) (now (buf .exit)) ⌝ }
-{
-    if closes {
-        return end_step(progress, flags, line_break, indentation, buf, commit);
-    }
-    node_step(
-        progress,
-        flags,
-        line_break,
-        indentation,
-        buf,
-        text,
-        table,
-        i,
-        atom_at,
-        break_line_at,
-        commit,
-    )
-}
-
 // Whether a node or an open list of the tree is left.
-fn goes_on(i: usize, end: usize, open: usize) -> bool
+pub(crate) fn goes_on(i: usize, end: usize, open: usize) -> bool
     ensures { λ r. ⌜ r ≡ (ltb i end || ltb 0 «open») ⌝ }
 {
     if i < end {
@@ -279,111 +267,17 @@ fn goes_on(i: usize, end: usize, open: usize) -> bool
 }
 
 // The threshold of the next node, if an atom: a list's first child stays on the line of the `(`.
-fn atom_threshold(begins: bool, break_line_at: u64) -> u64
+pub(crate) fn atom_threshold(begins: bool, break_line_at: u64) -> u64
     ensures { λ r. ⌜ r ≡ cond begins largest «break_line_at» ⌝ }
 {
     if begins { LARGEST } else { break_line_at }
 }
 
 // The offset that the walk answers: its first call's, which is node 0's.
-fn first_offset(i: usize, at: usize, offset: usize) -> usize
+pub(crate) fn first_offset(i: usize, at: usize, offset: usize) -> usize
     ensures { λ r. ⌜ r ≡ cond (eqb i 0) at offset ⌝ }
 {
     if i == 0 { at } else { offset }
-}
-
-// Ends a walk whose first call was answered with `offset`: with a finish and a line break, if wished.
-fn end_walk(
-    progress: Progress,
-    flags: &mut Flags,
-    line_break: &[u8],
-    indentation: &[u8],
-    buf: &mut [u8],
-    finish: bool,
-    offset: usize,
-    commit: bool,
-) -> Step
-    ensures { λ r. ⌜ Steps (ended (style (now («line_break» .entry)) (now (indentation .entry))) (length (now (buf .entry))) (joined progress (now (flags .entry))) finish offset) (joined progress (now (flags .entry))) commit (now (buf .entry)) r (now (flags .exit)) (now (buf .exit)) ⌝ }
-{
-    if !finish {
-        return Step {
-            progress,
-            answer: Put::At(offset),
-        };
-    }
-    let last = finish_step(progress, flags, line_break, indentation, buf, true, commit);
-    let answer = last.answer;
-    let Put::At(_) = answer else {
-        return last;
-    };
-    let done = last.progress;
-    Step {
-        progress: done,
-        answer: Put::At(offset),
-    }
-}
-
-// Makes the tree's calls, and finish's if wished, up to the first that is refused; without `commit` nothing is written. Answers as the first call or the
-// refused one.
-fn write_nodes(
-    progress: Progress,
-    flags: &mut Flags,
-    line_break: &[u8],
-    indentation: &[u8],
-    buf: &mut [u8],
-    text: &[u8],
-    table: &[u32],
-    break_line_at: u64,
-    finish: bool,
-    commit: bool,
-) -> Step
-    requires { ⌜ Checked (now text) (now table) × (progress .lists ≤ 200) ⌝ }
-    ensures { λ r. ⌜ ((n : Node) → decide (length (now (text .entry))) (now (table .entry)) ≡ some n → Made (style (now («line_break» .entry)) (now (indentation .entry))) (joined progress (now (flags .entry))) (depth n) (textCalls (now (text .entry)) «break_line_at» finish n) commit (now (buf .entry)) (joined (r .progress) (now (flags .exit))) (now (buf .exit)) (answerAs (r .answer))) ⌝ }
-{
-    let end = wide(table[3]);
-    let mut ends = [0usize; 200];
-    let mut open = 0;
-    let mut i = 0;
-    let mut current = progress;
-    let mut atom_at = break_line_at;
-    let mut offset = 0;
-    while goes_on(i, end, open) {
-        let closes = closes_at(&ends, open, i);
-        let step = turn(
-            current,
-            flags,
-            line_break,
-            indentation,
-            buf,
-            text,
-            table,
-            i,
-            closes,
-            atom_at,
-            break_line_at,
-            commit,
-        );
-        let answer = step.answer;
-        let Put::At(at) = answer else {
-            return step;
-        };
-        current = step.progress;
-        offset = first_offset(i, at, offset);
-        let place = pass(table, &mut ends, open, i, closes);
-        atom_at = atom_threshold(place.begins, break_line_at);
-        open = place.open;
-        i = place.i;
-    }
-    end_walk(
-        current,
-        flags,
-        line_break,
-        indentation,
-        buf,
-        finish,
-        offset,
-        commit,
-    )
 }
 
 // A refusal leaves the record.
@@ -393,73 +287,59 @@ fn refused(serializer: Serializer, answer: PutTree) -> TreeWrote
     TreeWrote { serializer, answer }
 }
 
-// Writes a tree whose table and atoms were checked, where an item may follow. The calls are tried first: if one is refused, none is made.
-fn write_checked(
+// Measures a tree whose table and atoms were checked, where an item may follow.
+fn measure_checked(
     serializer: Serializer,
     line_break: &[u8],
     indentation: &[u8],
-    buf: &mut [u8],
+    room: usize,
     text: &[u8],
     table: &[u32],
     break_line_at: u64,
     finish: bool,
 ) -> TreeWrote
-    requires { ⌜ (Checked (now text) (now table) × (serializer .lists ≤ 200)) × (isOver (serializer .phase) ≡ false) ⌝ }
-    ensures { λ r. ⌜ DoesWrite (writeNode (style (now («line_break» .entry)) (now (indentation .entry))) (now (buf .entry)) serializer (now (text .entry)) (textCalls (now (text .entry)) «break_line_at» finish) (decide (length (now (text .entry))) (now (table .entry)))) r (now (buf .exit)) ⌝ }
+    requires { ⌜ (Checked (now text) (now table) × (isSound serializer ≡ true)) × (isOver (serializer .phase) ≡ false) ⌝ }
+    ensures { λ r. ⌜ ((b : List ℕ) → length b ≡ room → DoesMeasure (writeNode (style (now («line_break» .entry)) (now (indentation .entry))) b serializer (now (text .entry)) (textCalls (now (text .entry)) «break_line_at» finish) (decide (length (now (text .entry))) (now (table .entry)))) r) ⌝ }
 {
-    let progress = serializer.progress();
-    let mut tried = serializer.line_broken;
-    let trial = write_nodes(
-        progress,
-        &mut tried,
-        line_break,
-        indentation,
-        buf,
-        text,
-        table,
-        break_line_at,
-        finish,
-        false,
-    );
-    let answer = trial.answer;
-    let Put::At(offset) = answer else {
-        if too_deep(text.len(), table, serializer.lists) {
-            return refused(serializer, PutTree::TooDeep);
-        }
-        return refused(serializer, PutTree::NoRoom);
-    };
     let mut flags = serializer.line_broken;
-    let made = write_nodes(
-        progress,
+    let measured = measure_nodes(
+        serializer.progress(),
         &mut flags,
         line_break,
         indentation,
-        buf,
+        room,
         text,
         table,
         break_line_at,
         finish,
-        true,
     );
-    let done = made.progress;
-    TreeWrote {
-        serializer: done.join(flags),
-        answer: PutTree::At(offset),
+    match measured {
+        Measured::Fits(done, offset) => {
+            return TreeWrote {
+                serializer: done.join(flags),
+                answer: PutTree::At(offset),
+            };
+        }
+        Measured::Refused => {}
     }
+    if too_deep(text.len(), table, serializer.lists) {
+        return refused(serializer, PutTree::TooDeep);
+    }
+    refused(serializer, PutTree::NoRoom)
 }
 
-// Writes the tree that the table holds over `text`, and finishes with a line break if wished.
-pub fn write_tree(
+// What write_tree answers with a buffer of `room` bytes, and the record that it leaves. Nothing is written.
+pub fn measure_tree(
     serializer: Serializer,
     line_break: &[u8],
     indentation: &[u8],
-    buf: &mut [u8],
+    room: usize,
     text: &[u8],
     table: &[u32],
     break_line_at: u64,
     finish: bool,
 ) -> TreeWrote
-    ensures { λ r. ⌜ DoesWrite (writeTree (style (now («line_break» .entry)) (now (indentation .entry))) (now (buf .entry)) serializer (now (text .entry)) (now (table .entry)) (textCalls (now (text .entry)) «break_line_at» finish)) r (now (buf .exit)) ⌝ }
+    ensures { λ r. ⌜ ((b : List ℕ) → length b ≡ room → DoesMeasure (writeTree (style (now («line_break» .entry)) (now (indentation .entry))) b serializer (now (text .entry)) (now (table .entry)) (textCalls (now (text .entry)) «break_line_at» finish)) r) ⌝ }
 {
     if text.len() > LONGEST {
         return refused(serializer, PutTree::TextTooLong);
@@ -477,8 +357,49 @@ pub fn write_tree(
     if is_over(phase) {
         return refused(serializer, PutTree::WritingFinished);
     }
-    write_checked(
+    measure_checked(
         serializer,
+        line_break,
+        indentation,
+        room,
+        text,
+        table,
+        break_line_at,
+        finish,
+    )
+}
+
+// Writes the tree that the table holds over `text`, and finishes with a line break if wished. It is measured first: a refusal writes nothing.
+pub fn write_tree(
+    serializer: Serializer,
+    line_break: &[u8],
+    indentation: &[u8],
+    buf: &mut [u8],
+    text: &[u8],
+    table: &[u32],
+    break_line_at: u64,
+    finish: bool,
+) -> TreeWrote
+    ensures { λ r. ⌜ DoesWrite (writeTree (style (now («line_break» .entry)) (now (indentation .entry))) (now (buf .entry)) serializer (now (text .entry)) (now (table .entry)) (textCalls (now (text .entry)) «break_line_at» finish)) r (now (buf .exit)) ⌝ }
+{
+    let measured = measure_tree(
+        serializer,
+        line_break,
+        indentation,
+        buf.len(),
+        text,
+        table,
+        break_line_at,
+        finish,
+    );
+    let answer = measured.answer;
+    let PutTree::At(_) = answer else {
+        return measured;
+    };
+    let mut drawn = serializer.line_broken;
+    write_nodes(
+        serializer.progress(),
+        &mut drawn,
         line_break,
         indentation,
         buf,
@@ -486,7 +407,8 @@ pub fn write_tree(
         table,
         break_line_at,
         finish,
-    )
+    );
+    measured
 }
 
 // Writes the tree that the table holds over `text`. The first child of each list, if an atom, stays on the line of the `(`, and everything else goes on

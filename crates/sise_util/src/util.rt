@@ -1,7 +1,10 @@
 // The characters of atoms and strings, and the check of an atom.
 ghost use mathlib.Core.Path.{_≡_};
 ghost use Rattle.sise_util.specs.Chars.{isAtomChr, isStringChr, isEscapedChr};
-ghost use Rattle.sise_util.specs.Atom.{isAtom, isAtomPrefix};
+ghost use Prim.Native.Nat.{_<_};
+ghost use lib.ListN.{drop};
+ghost use Rattle.sise_util.specs.Atom.{inside, isAtom, isAtomPrefix};
+ghost use Rattle.sise_util.specs.Parts.{afterString};
 
 // Whether `chr` is an atom character outside a string.
 pub fn is_atom_chr(chr: u8) -> bool
@@ -71,6 +74,31 @@ fn is_escaped_chr(chr: u8) -> bool
     }
 }
 
+// The place behind the closing quote of a string whose inside begins at `from`, or 0 if no string is there. It is a loop of its own, and so short, since
+// a string may be long.
+fn string_end(atom: &[u8], from: usize) -> usize
+    ensures same { λ r. ⌜ afterString (now (atom .entry)) r ≡ inside (drop from (now (atom .entry))) ⌝ }
+    ensures on { λ r. ⌜ ((r ≡ 0 → ⊥) → from < r) ⌝ }
+{
+    let mut at = from;
+    while at < atom.len() {
+        let chr = atom[at];
+        at += 1;
+        if chr == b'"' {
+            return at;
+        }
+        if chr == b'\\' {
+            if atom.len() <= at || !is_escaped_chr(atom[at]) {
+                return 0;
+            }
+            at += 1;
+        } else if !is_atom_string_chr(chr) {
+            return 0;
+        }
+    }
+    0
+}
+
 // Whether `atom` is an atom: one or more atom characters and strings.
 pub fn check_atom(atom: &[u8]) -> bool
     ensures { λ r. ⌜ r ≡ isAtom (now (atom .entry)) ⌝ }
@@ -79,28 +107,21 @@ pub fn check_atom(atom: &[u8]) -> bool
         return false;
     }
     let mut at = 0;
-    let mut in_string = false;
     while at < atom.len() {
         let chr = atom[at];
-        at += 1;
-        if !in_string {
-            if chr == b'"' {
-                in_string = true;
-            } else if !is_atom_chr(chr) {
-                return false;
-            }
-        } else if chr == b'"' {
-            in_string = false;
-        } else if chr == b'\\' {
-            if atom.len() <= at || !is_escaped_chr(atom[at]) {
-                return false;
-            }
+        if is_atom_byte(chr) {
             at += 1;
-        } else if !is_atom_string_chr(chr) {
-            return false;
+        } else {
+            if chr != b'"' {
+                return false;
+            }
+            at = string_end(atom, at + 1);
+            if at == 0 {
+                return false;
+            }
         }
     }
-    !in_string
+    true
 }
 
 // Whether the first `len` bytes of `rest`, a text from an atom's first byte on, are an atom; a length past its end is none.

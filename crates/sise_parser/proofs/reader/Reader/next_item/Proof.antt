@@ -1,54 +1,34 @@
--- `sise_parser::Reader::next_item` meets its contract: refusals 11 and 9 first, then what the token gives in the phase.
+-- `sise_parser::Reader::next_item` meets its contract: a bracket at the position is the token there, and all else is left to item_ahead.
 -- Assumes nothing.
-use mathlib.Core.Path.{_≡_, sym, ap, _∙_}
-use mathlib.Core.List.{List}
-use Prim.Native.Nat.{ℕ, _≤_, _<_, _^_}
+use mathlib.Core.Path.{_∙_}
 use native.Mathlib.Omega.{arith}
 use borrow.Author.Needs.{needs}
-use borrow.Author.Tests.{not-true, not-false, leb-true}
-use Rattle.sise_parser.specs.Lexer.{between}
-use Rattle.sise_parser.specs.Reader.{listsFit, tokenAt}
-use Rattle.sise_parser.specs.Meaning.{lexedAs}
-use Rattle.sise_parser.specs.declared.lexer.Lexed.{Lexed}
-use Rattle.sise_parser.specs.declared.reader.Phase.{Phase}
-use Rattle.sise_parser.proofs.Calls.{parsing-lists, is-parsing, next-unsound, next-finishing, next-beginning, next-parsing, next-bad}
+use borrow.Author.Tests.{ltb-true, leb-true}
+use Rattle.sise_parser.proofs.Calls.{opened-here, closed-here}
 use Rattle.sise_parser.proofs.reader.Reader.next_item.Statement.{statement}
 use Rattle.sise_parser.proofs.reader.Reader.next_item.Tie as tie
 
 pub next-item-spec : {M : Type 1} → statement M
-unfolding tokenAt
 next-item-spec =
     tie.close
     (tie.spec
-    (λ c κs. search needs)  -- is-sound-requires
-    (λ c κs. search needs)  -- refused-requires
-    (λ c. c .refused .ensures ∙ next-unsound (c .before .before .before .before .args .text .now) (c .before .before .before .before .args .self) (sym (c .before .before .is-sound .ensures) ∙ not-true _ (c .before .if1 .taken)))  -- returns
     (λ c. search needs)  -- enum-told
-    (λ c κs. search needs)  -- refused-requires-2
+    (λ c. search needs)  -- shared-slice-read-byte
+    (λ c. search needs)  -- add-item
+    (λ c. let o = c .before .before .before .if2 .taken in omega (arith, leb-true, c .before .before .before .before .if1 .taken))  -- add-item-2
+    (λ c κs. search needs)  -- item-requires
+    -- returns
+    (λ c.
+    c .item .ensures
+    ∙ opened-here (c .before .before .before .before .before .before .before .before .before .args .text .now) (c .before .before .before .before .before .before .before .before .before .args .self) (c .before .before .before .before .before .before .enum-told .given .1) (c .before .before .before .before .before .if1 .taken) (leb-true _ _ (c .before .before .before .before .if2 .taken))
+    (ltb-true _ _ (c .before .before .before .if3 .taken)) (c .before .if4 .taken))
+    (λ c. search needs)  -- add-item-3
+    (λ c. let k = c .before .before .before .if3 .taken in omega (arith, ltb-true))  -- sub-item
+    (λ c κs. search needs)  -- item-requires-2
     -- returns-2
-    (λ c. c .refused2 .ensures ∙ next-finishing (c .before .before .before .before .before .before .args .text .now) (c .before .before .before .before .before .before .args .self) (sym (c .before .before .before .before .is-sound .ensures) ∙ not-false _ (c .before .before .before .if1 .left)) (c .before .enum-told .given .1))
-    (λ c κs. search needs)  -- get-token-requires
-    (λ c. search needs)  -- enum-known-wrong
-    (λ c κs. search needs)  -- refused-requires-3
-    (λ c. search needs)  -- enum-known-token
-    (λ c. search needs)  -- enum-told-2
-    (λ c κs. search needs)  -- first-item-requires
-    -- inner-item-requires
-    (λ c κs.
-    let n = parsing-lists _ (c .before .before .before .before .before .before .before .before .before .args .self) (sym (c .before .before .before .before .before .before .before .is-sound .ensures) ∙ not-false _ (c .before .before .before .before .before .before .if1 .left)) (is-parsing (c .before .before .before .before .before .before .before .before .before .args .self .phase) (c .before .before .before .before .before .match .keys2) (c .match3 .keys2)) in
-    (n .0, omega (arith, n .1)))
-    -- returns-3
     (λ c.
-    c .refused3 .ensures
-    ∙ next-bad (c .before .before .before .before .before .before .before .before .before .args .text .now) (c .before .before .before .before .before .before .before .before .before .args .self) (sym (c .before .before .before .before .before .before .before .is-sound .ensures) ∙ not-false _ (c .before .before .before .before .before .before .if1 .left)) (c .before .before .before .before .before .match .keys2)
-    (ap lexedAs (sym (c .before .before .wrong .given .1)) ∙ c .before .before .before .before .get-token .ensures))
-    -- returns-4
-    (λ c.
-    c .first-item .ensures
-    ∙ next-beginning (c .before .before .before .before .before .before .before .before .before .before .before .args .text .now) (c .before .before .before .before .before .before .before .before .before .before .before .args .self) (sym (c .before .before .before .before .before .before .before .before .before .is-sound .ensures) ∙ not-false _ (c .before .before .before .before .before .before .before .before .if1 .left)) (c .before .enum-told2 .given .1)
-    (ap lexedAs (sym (c .before .before .before .before .token .given .1)) ∙ c .before .before .before .before .before .before .get-token .ensures))
-    -- returns-5
-    (λ c.
-    c .inner-item .ensures
-    ∙ next-parsing (c .before .before .before .before .before .before .before .before .before .before .args .text .now) (c .before .before .before .before .before .before .before .before .before .before .args .self) (sym (c .before .before .before .before .before .before .before .before .is-sound .ensures) ∙ not-false _ (c .before .before .before .before .before .before .before .if1 .left)) (is-parsing _ (c .before .before .before .before .before .before .match .keys2) (c .before .match3 .keys2))
-    (ap lexedAs (sym (c .before .before .before .token .given .1)) ∙ c .before .before .before .before .before .get-token .ensures)))
+    c .item2 .ensures
+    ∙ closed-here (c .before .before .before .before .before .before .before .before .before .before .args .text .now) (c .before .before .before .before .before .before .before .before .before .before .args .self) (c .before .before .before .before .before .before .before .enum-told .given .1) (c .before .before .before .before .before .before .if1 .taken) (leb-true _ _ (c .before .before .before .before .before .if2 .taken))
+    (ltb-true _ _ (c .before .before .before .before .if3 .taken)) (c .before .if5 .taken))
+    (λ c κs. search needs)  -- item-ahead-requires
+    (λ c. search needs))  -- returns-3

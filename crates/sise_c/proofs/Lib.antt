@@ -1,0 +1,3 @@
+pub mod Telling
+pub mod ItemLaws
+pub mod ItemCalls

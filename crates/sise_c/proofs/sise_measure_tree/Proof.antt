@@ -1,0 +1,16 @@
+-- `sise_measure_tree` meets its contract: it tells what measure_tree promises, and of the record the position alone.
+-- Assumes nothing.
+use borrow.Author.Needs.{needs}
+use Rattle.sise_c.proofs.Telling.{tells-measured}
+use Rattle.sise_c.proofs.sise_measure_tree.Statement.{statement}
+use Rattle.sise_c.proofs.sise_measure_tree.Tie as tie
+
+pub sise-measure-tree-spec : {M : Type 1} → statement M
+sise-measure-tree-spec =
+    tie.close
+    (tie.spec
+    (λ c κs. search needs)  -- new-requires
+    (λ c κs. search needs)  -- measure-tree-requires
+    (λ c κs. search needs)  -- tell-put-requires
+    -- returns
+    (λ c b e. let w = c .before .before in tells-measured _ b _ _ _ (w .before .new .ensures) (c .tell-put .ensures) (w .measure-tree .ensures b e)))

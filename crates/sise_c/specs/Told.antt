@@ -1,0 +1,31 @@
+-- What a call tells a program in another language: its result, and two words that the program lent (document 01, "Refusals").
+-- Assumes nothing.
+use Prim.Native.Nat.{ℕ}
+use mathlib.Core.Path.{_≡_}
+use mathlib.Core.Bool.{Bool, cond}
+use mathlib.Core.List.{List, [], _∷_}
+use Rattle.sise_tree.specs.Answers.{Answer, answered, refused, numberOf}
+use Rattle.sise_tree.specs.SerializeTree.{Writes}
+
+-- 17: "`check_atom` says no"
+abbrev pub checked : Bool → ℕ
+checked b = cond b 0 17
+
+-- what is answered, or a refusal's place and code point, 0 where there is none
+abbrev pub valuesOf : Answer → List ℕ
+valuesOf (answered n) = n ∷ 0 ∷ []
+valuesOf (refused e) = e .place ∷ e .code ∷ []
+
+-- the result r is 0 or the refusal's number, and the two words are `now`
+pub record Tells (a : Answer) (r : ℕ) (now : List ℕ) : Type 0 where
+  pub result : r ≡ numberOf a
+  pub values : now ≡ valuesOf a
+
+-- where a writing answers with an offset, its size n is told
+abbrev pub sizeOr : ℕ → Answer → Answer
+sizeOr n (answered o) = answered n
+sizeOr n (refused e) = refused e
+
+-- the bytes that a tree written from the buffer's start takes
+abbrev pub sizeOf : Writes → Answer
+sizeOf d = sizeOr (d .serializer .position) (d .answer)

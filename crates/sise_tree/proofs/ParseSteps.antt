@@ -1,0 +1,135 @@
+-- Where the reading of a node stands, and how an item takes it on; a plain token is the item that the reader would give.
+-- Assumes nothing.
+use Prim.Native.Nat.{ℕ, _+_, _-_, _≤_}
+use native.Mathlib.Omega.{arith}
+use mathlib.Core.Path.{_≡_, refl, sym, ap, _∙_}
+use mathlib.Core.Bool.{Bool, true, false, false≢true, cond}
+use mathlib.Core.List.{List}
+use mathlib.Core.Logic.{_⊎_, inl, inr}
+use lib.Dec.{eqb}
+use lib.ListN.{length, drop}
+use borrow.Author.Tests.{eqb-true, eqb-false, ne-eqb}
+use Rattle.sise_util.proofs.Ranges.{split}
+use Rattle.sise_parser.specs.Lexer.{Lexed, found, opening, closing, atom, between}
+use Rattle.sise_parser.specs.Reader.{reader, listsFit, item, next, tokenAt, inParsing, nextItem}
+use Rattle.sise_parser.specs.declared.reader.Phase.{Phase}
+use Rattle.sise_parser.specs.declared.reader.Phase.the-variants.{Beginning, Parsing, Finishing}
+use Rattle.sise_parser.specs.declared.reader.Reader.{Reader}
+use Rattle.sise_parser.specs.declared.reader.ParsedItem.{ParsedItem}
+use Rattle.sise_parser.specs.declared.reader.ParsedItem.the-variants.{Atom, ListStart, ListEnd}
+use Rattle.sise_parser.proofs.Calls.{sound-parts, next-parsing}
+use Rattle.sise_tree.specs.Tree.{Node, list}
+use Rattle.sise_tree.specs.Tree as tree
+use Rattle.sise_tree.specs.ParseTree.{Frames, top, _▹_, Stage, inside, whole, closes, attach, close, turn, readStage, readNode}
+use Rattle.sise_tree.specs.Filling.{opened, Stands, readerAt}
+use Rattle.sise_tree.proofs.ReadSteps.{Took, took, readOn, read-item}
+
+-- what an item makes of the number of open lists, the reader's and the node's
+abbrev pub Opens : ParsedItem → ℕ → ℕ → Type 0
+Opens (Atom p n) a b = b ≡ a
+Opens (ListStart p) a b = b ≡ a + 1
+Opens (ListEnd p) a b = b + 1 ≡ a
+
+reader-opens : {text : List ℕ} {r q : Reader} (i : ParsedItem) → Took text r q i → Opens i (r .lists) (q .lists)
+reader-opens (Atom p n) t = t .leaves .1
+reader-opens (ListStart p) t = t .leaves .0
+reader-opens (ListEnd p) t = t .leaves .0
+
+abbrev openedIn : Stage → ℕ
+openedIn (inside f) = opened f
+openedIn (whole n) = 0
+openedIn (closes p) = 0
+
+abbrev isInside : Stage → Bool
+isInside (inside f) = true
+isInside (whole n) = false
+isInside (closes p) = false
+
+attach-opens : (f : Frames) (n : Node) {g : Frames} → attach f n ≡ inside g → opened g ≡ opened f
+unfolding attach opened
+attach-opens top n t = absurd (false≢true (ap isInside t))
+attach-opens (f ▹ c) n t = sym (ap openedIn t)
+
+pub node-opens : (f : Frames) (i : ParsedItem) {g : Frames} → turn f i ≡ inside g → Opens i (opened f) (opened g)
+unfolding turn close opened
+node-opens f (Atom p n) t = attach-opens f (tree.atom p n) t
+node-opens f (ListStart p) t = sym (ap openedIn t)
+node-opens top (ListEnd p) t = absurd (false≢true (ap isInside t))
+node-opens (f ▹ c) (ListEnd p) t = ap (λ (k : ℕ). k + 1) (attach-opens f (list c) t)
+
+both-open : (i : ParsedItem) (a b c d k : ℕ) → Opens i a b → Opens i c d → c ≡ k + a → d ≡ k + b
+both-open (Atom p n) a b c d k x y z = omega arith
+both-open (ListStart p) a b c d k x y z = omega arith
+both-open (ListEnd p) a b c d k x y z = omega arith
+
+module _ (text : List ℕ) (r₀ : Reader) where
+  pub stands-none : Stands text r₀ top r₀ 0
+  unfolding readNode opened
+  stands-none = record { reads = refl; deep = refl; listed = omega arith; sound = λ d. absurd (d refl) }
+
+  module _ {f : Frames} {r : Reader} {depth : ℕ} (h : Stands text r₀ f r depth) {q : Reader} {i : ParsedItem} (e : nextItem text r ≡ next q (item i)) where
+    pub turned : {s : Stage} → turn f i ≡ s → readStage (readOn text q) q s ≡ readNode text r₀
+    turned t = ap (readStage (readOn text q) q) (sym t) ∙ sym (read-item text r f e) ∙ h .reads
+
+    pub stands-on : {g : Frames} {d : ℕ} → turn f i ≡ inside g → d ≡ opened g → Stands text r₀ g q d
+    unfolding readStage
+    stands-on {g} t z =
+        let k = took text r e in
+        let l = both-open i (opened f) (opened g) (r .lists) (q .lists) (r₀ .lists) (node-opens f i t) (reader-opens i k) (h .listed ∙ ap (λ (d : ℕ). r₀ .lists + d) (h .deep)) in
+        record { reads = turned t; deep = z; listed = l ∙ ap (λ (d : ℕ). r₀ .lists + d) (sym z); sound = λ d. k .stays }
+
+-- with a list open, a sound record is in the phase of parsing
+only-parsing : (h : Phase) (n : ℕ) → 1 ≤ n → listsFit h n ≡ true → h ≡ Parsing
+only-parsing Beginning n o e = absurd (omega (arith, eqb-true n 0 e))
+only-parsing Parsing n o e = refl
+only-parsing Finishing n o e = absurd (omega (arith, eqb-true n 0 e))
+
+-- a plain token at p, in a list
+module _ (text : List ℕ) (r₀ : Reader) {h : Phase} {f : Frames} {p depth : ℕ} (v : Stands text r₀ f (readerAt r₀ p h depth) depth) (some : depth ≡ 0 → ⊥) where
+  abbrev n : ℕ
+  n = r₀ .lists + depth
+
+  parsing : h ≡ Parsing
+  parsing = only-parsing h n (omega arith) (sound-parts (length text) (readerAt r₀ p h depth) (v .sound some) .fit)
+
+  pub depth-within : depth ≤ p
+  depth-within = omega (arith, sound-parts (length text) (readerAt r₀ p h depth) (v .sound some) .opened)
+
+  gives : {x : Lexed} → between (drop p text) p ≡ x → nextItem text (readerAt r₀ p h depth) ≡ inParsing n x
+  unfolding tokenAt
+  gives t = sym (next-parsing text (readerAt r₀ p h depth) (v .sound some) parsing (sym t))
+
+  -- the record that it leaves
+  leaves : (k : ℕ) {q m : ℕ} {i : ParsedItem} → m ≡ r₀ .lists + k → next (reader q Parsing m) (item i) ≡ next (readerAt r₀ q h k) (item i)
+  leaves k {q} {i = i} z = ap (λ (l : ℕ). next (reader q Parsing l) (item i)) z ∙ ap (λ (a : Phase). next (reader q a (r₀ .lists + k)) (item i)) (sym parsing)
+
+  pub plain-atom : {k s q : ℕ} → between (drop p text) p ≡ found (atom k) s q → nextItem text (readerAt r₀ p h depth) ≡ next (readerAt r₀ q h depth) (item (Atom s k))
+  unfolding inParsing
+  plain-atom t = gives t ∙ leaves depth refl
+
+  pub plain-start : {s q : ℕ} → between (drop p text) p ≡ found opening s q → nextItem text (readerAt r₀ p h depth) ≡ next (readerAt r₀ q h (depth + 1)) (item (ListStart s))
+  unfolding inParsing
+  plain-start t = gives t ∙ leaves (depth + 1) (omega arith)
+
+  pub plain-end :
+      {s q : ℕ} → between (drop p text) p ≡ found closing s q → (depth ≡ 1 → ⊥)
+      → nextItem text (readerAt r₀ p h depth) ≡ next (readerAt r₀ q h (depth - 1)) (item (ListEnd s))
+  unfolding inParsing
+  plain-end {s} {q} t more =
+      let two : n ≡ 1 → ⊥ = λ z. absurd (omega arith) in
+      gives t
+      ∙ ap (λ (b : Bool). next (cond b (reader q Finishing 0) (reader q Parsing (n - 1))) (item (ListEnd s))) (ne-eqb n 1 two)
+      ∙ leaves (depth - 1) (omega arith)
+
+-- so many lists are no more than the first ones, or than the text has bytes
+pub lists-within :
+    (text : List ℕ) (r₀ : Reader) {h : Phase} {f : Frames} {p depth : ℕ} → Stands text r₀ f (readerAt r₀ p h depth) depth
+    → (r₀ .lists + depth ≡ r₀ .lists) ⊎ (r₀ .lists + depth ≤ length text)
+lists-within text r₀ {h} {p = p} {depth} v =
+    split (eqb depth 0) (λ t. let z = eqb-true depth 0 t in inl (omega arith)) (λ t.
+    let k = sound-parts (length text) (readerAt r₀ p h depth) (v .sound (eqb-false depth 0 t)) in
+    inr (omega (arith, k .within, k .opened)))
+
+-- the record by its parts
+pub stands-at : (text : List ℕ) (r₀ : Reader) {f : Frames} {r : Reader} {depth : ℕ} → Stands text r₀ f r depth → r ≡ readerAt r₀ (r .position) (r .phase) depth
+stands-at text r₀ {r = r} v = ap (reader (r .position) (r .phase)) (v .listed)

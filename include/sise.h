@@ -1,0 +1,152 @@
+/*
+ * SISE profiles, proved: the calls of the static library sise_c for programs in C. C11.
+ *
+ *     rt staticlib sise_c                                        writes target/staticlib/libsise_c.a (Linux on x86-64)
+ *     cc -I include program.c target/staticlib/libsise_c.a       links it; it needs no other library
+ *
+ * A text is bytes. Each call does a whole job: it checks an atom, reads a text into a table, finds a node in a table, writes
+ * or measures a table's tree as a text, reads a text's items into words, or runs a list of writer calls. examples/c is a small
+ * program that uses them.
+ *
+ * Memory. The caller owns all memory and lends it for the time of the call: no call allocates, keeps a pointer, has a state
+ * of its own, recurses, or touches a byte outside of what it was lent. Lent memory crosses as a pointer and a number of
+ * elements, bytes of a uint8_t pointer, words of a uint32_t or uint64_t pointer. The caller owes three things:
+ *   - The pointer is aligned and not NULL, even if the number is 0, and points to at least so many elements.
+ *   - What the call writes (a pointer that is not to const) overlaps nothing else that the same call is lent.
+ *   - No other thread writes what is lent while the call runs, or reads what the call writes.
+ *
+ * Results. A call that returns uint32_t returns 0, or a refusal's number (below); then nothing was written but `values`.
+ * `values` are two words, which a call that takes them always writes: the answer and 0; of a refusal in the text (1 to 8) its
+ * place, which is a byte's offset from 0, and the code point found there (1 to 3, else 0); of any other refusal 0 and 0.
+ * Where a call has several reasons to refuse, it gives the first in the order that is said of it.
+ *
+ * Tables. A tree is held in a table of 32-bit words, four a node, a list's children after it in order:
+ *     an atom:  1, place of its first byte in the text, number of bytes, 1
+ *     a list:   0, number of children, 0, number of nodes in it with itself
+ * A table has no text of its own: the calls want the text beside it. Words after the first node's are not looked at, so the
+ * subtree of node i is the table from word 4 * i on. The tree calls look at the whole table before they trust it, whoever
+ * wrote it. A text of n bytes has at most n nodes: 4 * n words are always enough.
+ */
+#ifndef SISE_H
+#define SISE_H
+
+#include <stdbool.h>
+#include <stddef.h>
+#include <stdint.h>
+
+#ifdef __cplusplus
+extern "C" {
+#endif
+
+/* The most bytes of a text that a tree call reads, and the most that any call writes. */
+#define SISE_LONGEST 16777216
+
+/* The most lists that may be open in each other where a text is written. Where it is read, there is no such limit. */
+#define SISE_DEEPEST 200
+
+/* The largest threshold: no line is ever broken. */
+#define SISE_ONE_LINE UINT64_MAX
+
+/* Refusals. 9 to 12 are numbers of calls that go item by item, which this library does not have. */
+enum sise_refusal {
+    SISE_OK = 0,
+    /* In a text, with a place. */
+    SISE_ILLEGAL_CHR = 1,            /* a character that begins no token; its code point */
+    SISE_ILLEGAL_CHR_IN_STRING = 2,  /* a character that may not stand in a string; its code point */
+    SISE_ILLEGAL_CHR_IN_COMMENT = 3, /* a character that may not stand in a comment; its code point */
+    SISE_UNFINISHED_STRING = 4,      /* the text ends inside a string */
+    SISE_UNEXPECTED_EOF = 5,         /* the text ends where an item is due */
+    SISE_UNEXPECTED_RIGHT_PAREN = 6, /* a `)` where no list is open */
+    SISE_EXPECTED_EOF = 7,           /* something stands behind the text's one node */
+    SISE_ILL_FORMED_CHR = 8,         /* bytes that are not UTF-8 (RFC 3629) */
+    /* Of what is lent. */
+    SISE_TEXT_TOO_LONG = 13, /* the text has more than SISE_LONGEST bytes */
+    SISE_TABLE_FULL = 14,    /* the memory has no room for what was read */
+    SISE_NOT_A_TREE = 15,    /* the table holds no tree over this text */
+    SISE_NO_SUCH_NODE = 16,  /* no node at the end of the path */
+    SISE_INVALID_ATOM = 17,  /* the bytes are no atom */
+    /* Of the writer. */
+    SISE_NO_LIST_TO_END = 18,       /* only in the answers of sise_write_calls */
+    SISE_WRITING_FINISHED = 19,     /* only there: the node is whole, or finish was called */
+    SISE_WRITING_NOT_FINISHED = 20, /* only there: finish before the node is whole */
+    SISE_TOO_DEEP = 21,             /* a list would be the 201st open */
+    SISE_NO_ROOM = 22               /* the text would pass the buffer's end, or SISE_LONGEST */
+};
+
+/*
+ * Whether the bytes are an atom: one or more of letters, digits, ! # $ % & * + - . / : < = > ? @ _ ~ and strings in ".
+ * Refused: 17.
+ */
+uint32_t sise_check_atom(const uint8_t *atom, size_t atom_len);
+
+/*
+ * Reads a whole text, which is one node with blanks and comments around it, into the first words of the table; the words
+ * after them stay as they are. Answers the number of nodes.
+ * Refused: 13; the first refusal in the text (1 to 8); 14, if the table has fewer than four words a node.
+ */
+uint32_t sise_parse_tree(const uint8_t *text, size_t text_len, uint32_t *table, size_t table_len, uint64_t values[2]);
+
+/*
+ * Finds the node that a path leads to from the table's first node, each step a child's number from 0. Answers the node's
+ * index i: its words are table[4 * i] to table[4 * i + 3]. No step leads to node 0.
+ * Refused: 13; 15; 16, if a list has too few children, or a step goes into an atom.
+ */
+uint32_t sise_index_path(const uint32_t *table, size_t table_len, const uint8_t *text, size_t text_len, const uint64_t *path,
+                         size_t path_len, uint64_t values[2]);
+
+/*
+ * Writes the tree of the table's first node to the start of the buffer; the bytes after it stay as they are. Answers the
+ * number of bytes written.
+ * In a list, an atom or a list goes to a new line, behind one indentation for each open list, where the line is break_line_at
+ * bytes long or longer; else behind a space, a first child behind none. A first child that is an atom stays on the line of its
+ * `(`. A list that has a line broken in it closes on a line of its own. 0 breaks every line, SISE_ONE_LINE none.
+ * With final_break a line_break is written behind the tree. House style is "\n", "  ", 0 and true. Both strings are written as
+ * they are: only if they are blank (space, tab, LF, CR) and line_break is not empty does the text read back as this tree.
+ * Refused: 13; 15; 17, if what the table calls an atom is none; 21; 22, which sise_measure_tree says beforehand.
+ */
+uint32_t sise_serialize_tree(const uint8_t *line_break, size_t line_break_len, const uint8_t *indentation,
+                             size_t indentation_len, uint8_t *buf, size_t buf_len, const uint8_t *text, size_t text_len,
+                             const uint32_t *table, size_t table_len, uint64_t break_line_at, bool final_break,
+                             uint64_t values[2]);
+
+/*
+ * Answers the number of bytes that sise_serialize_tree writes of the same tree in the same layout: what it answers with a
+ * buffer of SISE_LONGEST bytes. Nothing is written.
+ * Refused: 13; 15; 17; 21; 22, where the text would pass SISE_LONGEST.
+ */
+uint32_t sise_measure_tree(const uint8_t *line_break, size_t line_break_len, const uint8_t *indentation,
+                           size_t indentation_len, const uint8_t *text, size_t text_len, const uint32_t *table,
+                           size_t table_len, uint64_t break_line_at, bool final_break, uint64_t values[2]);
+
+/*
+ * Reads the items of a whole text into the first words, four an item; the words after them stay as they are. Answers the number
+ * of items. A text of n bytes has at most n items: 4 * n words are always enough.
+ *     an atom:      0, place of its first byte, number of bytes, 0
+ *     a list start: 1, place of its `(`, 0, 0
+ *     a list end:   2, place of its `)`, 0, 0
+ * These are the words of the calls that write the items again: with a threshold in the fourth word of each, and the four of a
+ * finish behind them, sise_write_calls takes them, with the text for its atoms.
+ * Refused: the first refusal in the text (1 to 8); 14, if there are fewer than four words an item.
+ */
+uint32_t sise_read_items(const uint8_t *text, size_t text_len, uint64_t *words, size_t words_len, uint64_t values[2]);
+
+/*
+ * Runs a list of writer calls from the start of the buffer, and returns how many bytes are written. A call is four words:
+ *     0, place, length, threshold    put_atom: the atom is so many bytes of atoms, from that place on
+ *     1, 0, 0, threshold             begin_list
+ *     2, 0, 0, 0                     end_list
+ *     3 or 4, 0, 0, 0                finish: without, or with a line_break behind the text
+ * (a word that is shown as 0 is not looked at). A threshold is one call's break_line_at. It stops at a first word above 4, at
+ * a rest of fewer than four words, and where no answer word is left. Call k writes answers[k]: the offset of what it wrote, or
+ * 2^32 and the number of its refusal, which leaves buffer and position as they were; the next call runs all the same.
+ * Refused: put_atom 17, 19, 22; begin_list 19, 21, 22; end_list 18 or 19, 22; finish 20 or 19, 22.
+ */
+uint64_t sise_write_calls(const uint64_t *words, size_t words_len, const uint8_t *atoms, size_t atoms_len,
+                          const uint8_t *line_break, size_t line_break_len, const uint8_t *indentation,
+                          size_t indentation_len, uint8_t *buf, size_t buf_len, uint64_t *answers, size_t answers_len);
+
+#ifdef __cplusplus
+}
+#endif
+
+#endif
