@@ -1,6 +1,6 @@
 // Tables: whether one holds a tree, and the node at the end of a path.
 ghost use mathlib.Core.Path.{_≡_};
-ghost use Prim.Native.Nat.{_+_, _*_, _^_, _<_};
+ghost use Prim.Native.Nat.{_+_, _-_, _*_, _/_, _^_, _≤_, _<_};
 ghost use lib.ListN.{length, getD};
 ghost use Rattle.sise_tree.specs.Tree.{fillsIn};
 ghost use Rattle.sise_tree.specs.Parts.{goodIn, stepped, MoreThan};
@@ -49,6 +49,24 @@ fn word(table: &[u32], i: usize, j: usize) -> usize
     wide(table[4 * i + j])
 }
 
+// How many nodes from `at` on, `left` at most and before node `end`, have the span 1, as atoms have. Counted so, the next node's place does not wait for
+// the word that says how far it is.
+fn singles(table: &[u32], left: usize, at: usize, end: usize) -> usize
+    requires { ⌜ (end ≤ length (now table) / 4) × (at < end) ⌝ }
+    ensures same { λ r. ⌜ fillsIn (now (table .entry)) (left - r) (at + r) end ≡ fillsIn (now (table .entry)) left at end ⌝ }
+    ensures few { λ r. ⌜ r ≤ left ⌝ }
+    ensures within { λ r. ⌜ at + r ≤ end ⌝ }
+{
+    let mut run = 0;
+    while run < left && at + run < end {
+        if word(table, at + run, 3) != 1 {
+            return run;
+        }
+        run += 1;
+    }
+    run
+}
+
 // Whether the spans of `children` nodes, from node `from` on, end exactly at node `end`, which is in the table or just past it.
 fn fills(table: &[u32], children: usize, from: usize, end: usize) -> bool
     ensures { λ r. ⌜ r ≡ fillsIn (now (table .entry)) children from end ⌝ }
@@ -62,12 +80,18 @@ fn fills(table: &[u32], children: usize, from: usize, end: usize) -> bool
         if at >= end {
             return false;
         }
-        let span = word(table, at, 3);
-        if span == 0 {
-            return false;
+        let run = singles(table, left, at, end);
+        if run > 0 {
+            at += run;
+            left -= run;
+        } else {
+            let span = word(table, at, 3);
+            if span == 0 {
+                return false;
+            }
+            at += span;
+            left -= 1;
         }
-        at += span;
-        left -= 1;
     }
     at == end
 }
