@@ -1,4 +1,4 @@
-// The tree that a table holds, written by the writer's calls. A first walk makes all the calls without writing, so that a refusal leaves the buffer.
+// The tree that a table holds, written as the writer's calls would write it. It is measured first (measure.rt), so that a refusal leaves the buffer, and then drawn (write.rt).
 use crate::measure::Measured;
 use crate::measure::measure_nodes;
 use crate::tree::LONGEST;
