@@ -8,11 +8,10 @@ use items::count_items;
 use items::fill_items;
 use sise_layout::write_calls;
 use sise_parser::Finished;
-use sise_serializer::Serializer;
 use sise_tree::index_path;
-use sise_tree::measure_tree;
+use sise_tree::measure_text;
 use sise_tree::parse_text;
-use sise_tree::write_tree;
+use sise_tree::write_text;
 use sise_util::check_atom;
 use told::Values;
 use told::tell_indexed;
@@ -84,8 +83,7 @@ pub extern "C" fn sise_serialize_tree(
     ensures told { λ r. ⌜ Tells (sizeOf (writeTree (style (now («line_break» .entry)) (now (indentation .entry))) (now (buf .entry)) freshSerializer (now (text .entry)) (now (table .entry)) (textCalls (now (text .entry)) «break_line_at» «final_break»))) r (now (values .exit)) ⌝ }
     ensures bytes { λ r. ⌜ now (buf .exit) ≡ writeTree (style (now («line_break» .entry)) (now (indentation .entry))) (now (buf .entry)) freshSerializer (now (text .entry)) (now (table .entry)) (textCalls (now (text .entry)) «break_line_at» «final_break») .buffer ⌝ }
 {
-    let wrote = write_tree(
-        Serializer::new(),
+    let wrote = write_text(
         line_break,
         indentation,
         buf,
@@ -111,8 +109,7 @@ pub extern "C" fn sise_measure_tree(
 ) -> u32
     ensures { λ r. ⌜ ((b : List ℕ) → length b ≡ longest → Tells (sizeOf (writeTree (style (now («line_break» .entry)) (now (indentation .entry))) b freshSerializer (now (text .entry)) (now (table .entry)) (textCalls (now (text .entry)) «break_line_at» «final_break»))) r (now (values .exit))) ⌝ }
 {
-    let measured = measure_tree(
-        Serializer::new(),
+    let measured = measure_text(
         line_break,
         indentation,
         LONGEST,

@@ -329,7 +329,7 @@ fn measure_checked(
 }
 
 // What write_tree answers with a buffer of `room` bytes, and the record that it leaves. Nothing is written.
-pub fn measure_tree(
+pub(crate) fn measure_tree(
     serializer: Serializer,
     line_break: &[u8],
     indentation: &[u8],
@@ -370,7 +370,7 @@ pub fn measure_tree(
 }
 
 // Writes the tree that the table holds over `text`, and finishes with a line break if wished. It is measured first: a refusal writes nothing.
-pub fn write_tree(
+pub(crate) fn write_tree(
     serializer: Serializer,
     line_break: &[u8],
     indentation: &[u8],

@@ -1,5 +1,6 @@
--- `sise_measure_tree` meets its contract: it tells what measure_tree promises, and of the record the position alone.
+-- `sise_measure_tree` meets its contract: it tells what measure_text promises, and of the record the position alone.
 -- Assumes nothing.
+use mathlib.Core.Path.{refl}
 use borrow.Author.Needs.{needs}
 use Rattle.sise_c.proofs.Telling.{tells-measured}
 use Rattle.sise_c.proofs.sise_measure_tree.Statement.{statement}
@@ -9,8 +10,7 @@ pub sise-measure-tree-spec : {M : Type 1} → statement M
 sise-measure-tree-spec =
     tie.close
     (tie.spec
-    (λ c κs. search needs)  -- new-requires
-    (λ c κs. search needs)  -- measure-tree-requires
+    (λ c κs. search needs)  -- measure-text-requires
     (λ c κs. search needs)  -- tell-put-requires
     -- returns
-    (λ c b e. let w = c .before .before in tells-measured _ b _ _ _ (w .before .new .ensures) (c .tell-put .ensures) (w .measure-tree .ensures b e)))
+    (λ c b e. let w = c .before .before in tells-measured _ b _ _ _ refl (c .tell-put .ensures) (w .measure-text .ensures b e)))
