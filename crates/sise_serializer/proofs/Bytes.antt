@@ -1,13 +1,13 @@
 -- Bytes pasted one after another are pasted at once; and how long repeated bytes are.
 -- Assumes nothing.
-use Prim.Native.Nat.{ℕ, zero, suc, _+_, _*_, _≤_}
+use Prim.Native.Nat.{ℕ, zero, suc, _+_, _*_, _≤_, _<_}
 use native.Mathlib.Nat.{zero-mul, suc-mul, add-assoc}
 use native.Mathlib.Numerals.{add-one}
 use native.Mathlib.Omega.{arith}
 use mathlib.Core.Path.{_≡_, sym, ap, _∙_}
-use mathlib.Core.List.{List, [], _++_, append-assoc, append-nil}
-use lib.ListN.{length, take, drop, length-append, length-take}
-use lib.Seq.{paste, paste-zero, take-length, take-at, drop-at, drop-drop}
+use mathlib.Core.List.{List, [], _∷_, _++_, append-assoc, append-nil}
+use lib.ListN.{length, set, take, drop, length-append, length-take}
+use lib.Seq.{paste, paste-zero, take-length, take-at, drop-at, drop-drop, set-split}
 use Rattle.sise_serializer.specs.Bytes.{pasted, repeat}
 
 pub repeat-length : (n : ℕ) (b : List ℕ) → length (repeat n b) ≡ n * length b
@@ -48,12 +48,15 @@ pasted-again l at k b h = rw (pasted-more l at (repeat k b) h b, repeat-more, ad
 pub repeat-length-more : (k : ℕ) (b : List ℕ) → length (repeat (k + 1) b) ≡ length (repeat k b) + length b
 repeat-length-more k b = rw (add-one, ← repeat-more) (length-append (repeat k b) b)
 
--- c right behind b right behind a
-pub pasted-three : (l : List ℕ) (at : ℕ) (a b c : List ℕ) → at + (length a + length b) + length c ≤ length l
-    → pasted (pasted (pasted l at a) (at + length a) b) (at + length a + length b) c ≡ pasted l at (a ++ b ++ c)
-pasted-three l at a b c h =
-    rw (pasted-more l at a (omega arith) b, add-assoc, ← length-append a b)
-    (pasted-more l at (a ++ b) (rw (length-append a b) (omega arith)) c)
+-- one byte
+pub pasted-one : (l : List ℕ) (at b : ℕ) → at < length l → set l at b ≡ pasted l at (b ∷ [])
+unfolding pasted
+pasted-one l at b h = set-split l at b h ∙ ap (λ (k : ℕ). take at l ++ b ∷ drop k l) (sym (add-one at)) ∙ sym (append-assoc (take at l) (b ∷ []) (drop (at + 1) l))
+
+-- bytes written right behind others
+pub pasted-behind : (l : List ℕ) (at : ℕ) (a b : List ℕ) {m now : List ℕ} {to : ℕ} → m ≡ pasted l at a → to ≡ at + length a → now ≡ pasted m to b → at + length a ≤ length l
+    → now ≡ pasted l at (a ++ b)
+pasted-behind l at a b e f g h = g ∙ rw (e, f) (pasted-more l at a h b)
 
 -- layout: a lead and n indentations
 pub layout-length : (a : List ℕ) (n : ℕ) (b : List ℕ) → length (a ++ repeat n b) ≡ length a + n * length b

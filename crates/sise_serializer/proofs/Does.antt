@@ -3,17 +3,18 @@
 use Prim.Native.Nat.{ℕ, _+_, _-_, _*_, _≤_, _<_}
 use native.Mathlib.Nat.{add-zero}
 use mathlib.Core.Path.{_≡_, refl, sym, ap, subst, _∙_}
-use mathlib.Core.Bool.{Bool, true, false, cond}
-use mathlib.Core.List.{List, [], _∷_, append-nil}
+use mathlib.Core.Bool.{Bool, true, false, _||_, cond, false≢true}
+use mathlib.Core.List.{List, [], _∷_, _++_, append-nil}
 use lib.ListN.{length, getD}
 use borrow.Author.Tests.{lt-ltb, le-ltb}
 use Rattle.sise_util.specs.Atom.{isAtom}
+use Rattle.sise_util.proofs.Ranges.{split}
 use Rattle.sise_serializer.specs.Bytes.{pasted, repeat}
-use Rattle.sise_serializer.specs.Serializer.{Answer, refused, answerAs, Written, Does, deepest, isSound, Style, style, Piece, refuse, place, Gap, newLine, nothing, space, gapAt, laid, inner, innerAs, close, closeAs, last, putIn, putAtom, beginIn, beginList, endIn, endList, finishIn, finishWriting}
-use Rattle.sise_serializer.specs.Steps.{joined, Steps, putToken}
-use Rattle.sise_serializer.specs.Parts.{Placed, closedWith, inLine}
+use Rattle.sise_serializer.specs.Serializer.{Answer, refused, answerAs, Written, Does, deepest, isSound, Style, style, Piece, refuse, place, firstAtom, firstList, Gap, newLine, nothing, space, gapAt, laid, inner, innerAs, close, closeAs, last, putIn, putAtom, beginIn, beginList, endIn, endList, finishIn, finishWriting}
+use Rattle.sise_serializer.specs.Steps.{joined, Steps, putItem}
+use Rattle.sise_serializer.specs.Parts.{spotOf, closedWith, inLine, tokenOf, gapBytes, firstItem}
 use Rattle.sise_serializer.specs.declared.serializer.Phase.{Phase}
-use Rattle.sise_serializer.specs.declared.serializer.Phase.the-variants.{Writing, Done}
+use Rattle.sise_serializer.specs.declared.serializer.Phase.the-variants.{Beginning, Writing, Finished, Done}
 use Rattle.sise_serializer.specs.declared.serializer.Serializer.{Serializer}
 use Rattle.sise_serializer.specs.declared.serializer.Wrote.{Wrote}
 use Rattle.sise_serializer.specs.declared.steps.Progress.{Progress}
@@ -27,43 +28,65 @@ use Rattle.sise_serializer.proofs.Spots.{found, not-found}
 
 -- ---- refusals and pieces
 
--- where nothing is to be written it does not matter whether the step commits
-unwritten : (commit : Bool) (before : List ℕ) (at : ℕ) → before ≡ cond commit (pasted before at []) before
-unwritten true before at = sym (pasted-none before at)
-unwritten false before at = refl
-
-full-kept : (commit : Bool) (before : List ℕ) → cond commit before before ≡ before
-full-kept true before = refl
-full-kept false before = refl
-
-module _ (p : Progress) (flags : List Bool) (commit : Bool) (before : List ℕ) where
+module _ (p : Progress) (flags : List Bool) (before : List ℕ) where
   -- a refusal changes nothing
   pub refused-steps : (n : ℕ) {a : Put} {x : Step} → x ≡ record { progress = p; answer = a } → answerAs a ≡ refused n
-      → Steps (refuse n (joined p flags)) (joined p flags) commit before x flags before
-  refused-steps n g e = record { serializer = ap (λ (x : Step). joined (x .progress) flags) g; answer = ap (λ (x : Step). answerAs (x .answer)) g ∙ e; buffer = unwritten commit before (p .position) }
+      → Steps (refuse n (joined p flags)) (joined p flags) before x flags before
+  refused-steps n g e = record { serializer = ap (λ (x : Step). joined (x .progress) flags) g; answer = ap (λ (x : Step). answerAs (x .answer)) g ∙ e; buffer = sym (pasted-none before (p .position)) }
 
-  module _ (b : Piece) {r : Spot} {now : List ℕ} (h : Placed before (p .position) (b .layout) (b .token) commit r now) where
+  module _ (b : Piece) {r : Spot} (h : r ≡ spotOf (length before) (p .position) (length (b .layout)) (length (b .token))) where
     -- a piece with room
-    pub placed-steps : {o e : ℕ} {v : Progress} {after : List Bool} → r ≡ spot.At o e
+    pub placed-steps : {o e : ℕ} {v : Progress} {after : List Bool} {now : List ℕ} → r ≡ spot.At o e
         → (e ≡ p .position + length (b .layout) + length (b .token) → joined v after ≡ b .after)
-        → Steps (place (length before) (joined p flags) b) (joined p flags) commit before (record { progress = v; answer = put.At o }) after now
+        → now ≡ pasted before (p .position) (b .layout ++ b .token)
+        → Steps (place (length before) (joined p flags) b) (joined p flags) before (record { progress = v; answer = put.At o }) after now
     unfolding place
-    placed-steps t q =
-        let f = found (length before) (p .position) (length (b .layout)) (length (b .token)) (sym t ∙ h .spot) in
-        rw (f .test)
-        (record { serializer = q (f .end); answer = ap Answer.accepted (f .offset); buffer = rw t at (h .buffer) })
+    placed-steps t q n =
+        let f = found (length before) (p .position) (length (b .layout)) (length (b .token)) (sym t ∙ h) in
+        rw (f .test) (record { serializer = q (f .end); answer = ap Answer.accepted (f .offset); buffer = n })
 
     -- a piece without room
     pub full-steps : {x : Step} → x ≡ record { progress = p; answer = put.NoRoom } → r ≡ spot.NoRoom
-        → Steps (place (length before) (joined p flags) b) (joined p flags) commit before x flags now
+        → Steps (place (length before) (joined p flags) b) (joined p flags) before x flags before
     unfolding place
     full-steps g t =
-        let same : now ≡ cond commit before before = rw t at (h .buffer) in
-        rw (not-found (length before) (p .position) (length (b .layout)) (length (b .token)) (sym t ∙ h .spot))
-        (record { serializer = ap (λ (x : Step). joined (x .progress) flags) g; answer = ap (λ (x : Step). answerAs (x .answer)) g; buffer = same ∙ full-kept commit before ∙ unwritten commit before (p .position) })
+        rw (not-found (length before) (p .position) (length (b .layout)) (length (b .token)) (sym t ∙ h))
+        (record { serializer = ap (λ (x : Step). joined (x .progress) flags) g; answer = ap (λ (x : Step). answerAs (x .answer)) g; buffer = sym (pasted-none before (p .position)) })
 
--- a step that commits does what a call does, once its record and its flags are packed
-pub step-does : (d : Serializer → Written) {v w : Serializer} {before now : List ℕ} {r : Step} {flags : List Bool} {x : Wrote} → v ≡ w → Steps (d v) v true before r flags now
+-- the first item: a list
+module _ (p : Progress) (flags : List Bool) (before : List ℕ) (a : List ℕ) where
+  abbrev first : Bool → Written
+  first isList = place (length before) (joined p flags) (firstItem (joined p flags) a isList)
+
+  module _ {r : Spot} {o e : ℕ} {v : Progress} {after : List Bool} {now : List ℕ} (t : r ≡ spot.At o e) where
+    pub first-list-steps : (isList : Bool) → isList ≡ true → r ≡ spotOf (length before) (p .position) 0 (length (tokenOf isList a)) → now ≡ pasted before o (tokenOf isList a)
+        → (e ≡ p .position + 1 → joined v after ≡ firstList (joined p flags) .after)
+        → Steps (first isList) (joined p flags) before (record { progress = v; answer = put.At o }) after now
+    unfolding firstList
+    first-list-steps true k h n q =
+        let f = found (length before) (p .position) 0 1 (sym t ∙ h) in
+        placed-steps p flags before (firstList (joined p flags)) h t (λ x. q (x ∙ rw (add-zero (p .position)))) (n ∙ rw (f .offset, add-zero (p .position)))
+    first-list-steps false k h n q = absurd (false≢true k)
+
+    -- or an atom
+    pub first-atom-steps : (isList : Bool) → isList ≡ false → r ≡ spotOf (length before) (p .position) 0 (length (tokenOf isList a)) → now ≡ pasted before o (tokenOf isList a)
+        → (e ≡ p .position + length a → joined v after ≡ firstAtom (joined p flags) a .after)
+        → Steps (first isList) (joined p flags) before (record { progress = v; answer = put.At o }) after now
+    unfolding firstAtom
+    first-atom-steps true k h n q = absurd (false≢true (sym k))
+    first-atom-steps false k h n q =
+        let f = found (length before) (p .position) 0 (length a) (sym t ∙ h) in
+        placed-steps p flags before (firstAtom (joined p flags) a) h t (λ x. q (x ∙ rw (add-zero (p .position)))) (n ∙ rw (f .offset, add-zero (p .position)))
+
+  -- without room
+  pub first-full-steps : (isList : Bool) {r : Spot} {x : Step} → r ≡ spotOf (length before) (p .position) 0 (length (tokenOf isList a)) → x ≡ record { progress = p; answer = put.NoRoom } → r ≡ spot.NoRoom
+      → Steps (first isList) (joined p flags) before x flags before
+  unfolding firstList firstAtom
+  first-full-steps true h g t = full-steps p flags before (firstList (joined p flags)) h g t
+  first-full-steps false h g t = full-steps p flags before (firstAtom (joined p flags) a) h g t
+
+-- a step does what a call does, once its record and its flags are packed
+pub step-does : (d : Serializer → Written) {v w : Serializer} {before now : List ℕ} {r : Step} {flags : List Bool} {x : Wrote} → v ≡ w → Steps (d v) v before r flags now
     → x .serializer ≡ joined (r .progress) flags → x .answer ≡ r .answer → Does (d w) w before x now
 step-does d {before = before} {now = now} {x = x} same h e a =
     subst (λ (w : Serializer). Does (d w) w before x now) same
@@ -96,23 +119,32 @@ module _ (s : Style) (w : Serializer) (token : List ℕ) (isList : Bool) (t : �
   unfolding innerAs laid inLine
   space-is gap = inner-is gap
 
+-- an item that stays in its line, behind a space unless a list begins
+pub in-line-is : (s : Style) (w : Serializer) (token : List ℕ) (isList : Bool) (t : ℕ) → w .«line_len» < t → inner s w token isList t ≡ inLine w token isList (gapBytes (w .«list_beginning»))
+in-line-is s w token isList t h =
+    split (w .«list_beginning»)
+    (λ b. nothing-is s w token isList t (gap-nothing w t h b) ∙ ap (λ (g : Bool). inLine w token isList (gapBytes g)) (sym b))
+    (λ b. space-is s w token isList t (gap-space w t h b) ∙ ap (λ (g : Bool). inLine w token isList (gapBytes g)) (sym b))
+
 -- ---- the close of a list, by its flag
 
-module _ (s : Style) (p : Progress) (flags : List Bool) (commit : Bool) {b : Bool} (flag : getD flags (p .lists - 1) false ≡ b)
-    {before : List ℕ} {r : Spot} {now : List ℕ} (h : Placed before (p .position) ((closeAs s (joined p flags) b) .layout) ((closeAs s (joined p flags) b) .token) commit r now) where
-  close-is : close s (joined p flags) ≡ closeAs s (joined p flags) b
-  unfolding close
-  close-is = ap (closeAs s (joined p flags)) flag
+close-is : (s : Style) (w : Serializer) {b : Bool} → getD (w .«line_broken») (w .lists - 1) false ≡ b → close s w ≡ closeAs s w b
+unfolding close
+close-is s w flag = ap (closeAs s w) flag
 
-  pub closed-steps : {o e : ℕ} {v : Progress} {after : List Bool} → r ≡ spot.At o e
+module _ (s : Style) (p : Progress) (flags : List Bool) {b : Bool} (flag : getD flags (p .lists - 1) false ≡ b)
+    {before : List ℕ} {r : Spot} (h : r ≡ spotOf (length before) (p .position) (length (closeAs s (joined p flags) b .layout)) 1) where
+  pub closed-steps : {o e : ℕ} {v : Progress} {after : List Bool} {now : List ℕ} → r ≡ spot.At o e
       → joined v after ≡ closedWith (joined p flags) b e (cond b ((p .lists - 1) * length (s .indentation)) (p .«line_len») + 1) (cond b (p .breaks + 1) (p .breaks)) (cond b (p .indents + (p .lists - 1)) (p .indents))
-      → Steps (place (length before) (joined p flags) (close s (joined p flags))) (joined p flags) commit before (record { progress = v; answer = put.At o }) after now
+      → now ≡ pasted before (p .position) (closeAs s (joined p flags) b .layout ++ 41 ∷ [])
+      → Steps (place (length before) (joined p flags) (close s (joined p flags))) (joined p flags) before (record { progress = v; answer = put.At o }) after now
   unfolding closeAs
-  closed-steps k q = rw close-is (placed-steps p flags commit before (closeAs s (joined p flags) b) h k (λ x. rw x at q))
+  closed-steps k q n = rw (close-is s (joined p flags) flag) (placed-steps p flags before (closeAs s (joined p flags) b) h k (λ x. rw x at q) n)
 
   pub close-full-steps : {x : Step} → x ≡ record { progress = p; answer = put.NoRoom } → r ≡ spot.NoRoom
-      → Steps (place (length before) (joined p flags) (close s (joined p flags))) (joined p flags) commit before x flags now
-  close-full-steps g k = rw close-is (full-steps p flags commit before (closeAs s (joined p flags) b) h g k)
+      → Steps (place (length before) (joined p flags) (close s (joined p flags))) (joined p flags) before x flags before
+  unfolding closeAs
+  close-full-steps g k = rw (close-is s (joined p flags) flag) (full-steps p flags before (closeAs s (joined p flags) b) h g k)
 
 -- ---- the end of the text: a wished line break is one of one, another one of none
 
@@ -127,9 +159,9 @@ counted-as false n = add-zero n
 pub counted : (b : Bool) (n : ℕ) {k : ℕ} → k ≡ cond b 1 0 → n + k ≡ cond b (n + 1) n
 counted b n e = ap (λ (k : ℕ). n + k) e ∙ counted-as b n
 
-pub last-placed : (b : Bool) (l : List ℕ) {n : ℕ} {before now : List ℕ} {at : ℕ} {commit : Bool} {r : Spot} → n ≡ cond b 1 0
-    → Placed before at (repeat n l) [] commit r now → Placed before at (cond b l []) [] commit r now
-last-placed b l e h = rw (← once b l, ← e) h
+-- its bytes
+pub last-bytes : (b : Bool) (l : List ℕ) {n : ℕ} → n ≡ cond b 1 0 → repeat n l ≡ cond b l []
+last-bytes b l e = ap (λ (k : ℕ). repeat k l) e ∙ once b l
 
 -- the record after it, from its position and its breaks
 pub last-after : (l : List ℕ) (p : Progress) (flags : List Bool) (wished : Bool) {e b : ℕ} → e ≡ p .position + length (cond wished l []) → b ≡ cond wished (p .breaks + 1) (p .breaks)
@@ -140,50 +172,57 @@ last-after l p flags wished x y = rw (x, y)
 
 -- ---- the calls, by their tests and the phase
 
+-- an item's call: an atom's or a list's
+module _ (s : Style) (room : ℕ) (w : Serializer) (a : List ℕ) (t : ℕ) where
+  pub item-unsound : (isList : Bool) → isSound w ≡ false → putItem s room w a isList t ≡ refuse 11 w
+  unfolding putItem putAtom beginList
+  item-unsound true e = rw e
+  item-unsound false e = rw e
+
+  module _ (e : isSound w ≡ true) where
+    pub item-no-atom : (isList : Bool) → (isList || isAtom a) ≡ false → putItem s room w a isList t ≡ refuse 17 w
+    unfolding putItem putAtom
+    item-no-atom true f = absurd (false≢true (sym f))
+    item-no-atom false f = rw (e, f)
+
+    -- by the phase, in which a list is begun or an atom put
+    abbrev itemIn : Phase → Bool → Written
+    itemIn p isList = cond isList (beginIn p s room w t) (putIn p s room w a t)
+
+    pub item-in : (isList : Bool) {p : Phase} → (isList || isAtom a) ≡ true → w .phase ≡ p → putItem s room w a isList t ≡ itemIn p isList
+    unfolding putItem putAtom beginList
+    item-in true f h = rw e (ap (λ (q : Phase). beginIn q s room w t) h)
+    item-in false f h = rw (e, f) (ap (λ (q : Phase). putIn q s room w a t) h)
+
+    module _ (isList : Bool) (f : (isList || isAtom a) ≡ true) where
+      pub item-first : w .phase ≡ Beginning → putItem s room w a isList t ≡ place room w (firstItem w a isList)
+      unfolding beginIn putIn
+      item-first h = item-in isList f h ∙ split isList (λ k. rw k) (λ k. rw k)
+
+      pub item-inner : w .phase ≡ Writing → (isList ≡ true → w .lists < deepest) → putItem s room w a isList t ≡ place room w (inner s w (tokenOf isList a) isList t)
+      unfolding beginIn putIn
+      item-inner h g = item-in isList f h ∙ split isList (λ k. let l = g k in rw (k, lt-ltb (w .lists) deepest l)) (λ k. rw k)
+
+      pub item-too-deep : w .phase ≡ Writing → isList ≡ true → deepest ≤ w .lists → putItem s room w a isList t ≡ refuse 21 w
+      unfolding beginIn
+      item-too-deep h k g = item-in isList f h ∙ rw (k, le-ltb (w .lists) deepest g)
+
+      pub item-finished : w .phase ≡ Finished → putItem s room w a isList t ≡ refuse 19 w
+      unfolding beginIn putIn
+      item-finished h = item-in isList f h ∙ split isList (λ k. rw k) (λ k. rw k)
+
+      pub item-done : w .phase ≡ Done → putItem s room w a isList t ≡ refuse 19 w
+      unfolding beginIn putIn
+      item-done h = item-in isList f h ∙ split isList (λ k. rw k) (λ k. rw k)
+
 module _ (s : Style) (room : ℕ) (w : Serializer) where
   pub put-unsound : (a : List ℕ) (t : ℕ) → isSound w ≡ false → putAtom s room w a t ≡ refuse 11 w
-  unfolding putAtom
-  put-unsound a t e = rw e
-
-  pub put-no-atom : (a : List ℕ) (t : ℕ) → isSound w ≡ true → isAtom a ≡ false → putAtom s room w a t ≡ refuse 17 w
-  unfolding putAtom
-  put-no-atom a t e f = rw (e, f)
-
-  pub put-sound : (a : List ℕ) (t : ℕ) → isSound w ≡ true → isAtom a ≡ true → putAtom s room w a t ≡ putIn (w .phase) s room w a t
-  unfolding putAtom
-  put-sound a t e f = rw (e, f)
-
-  pub put-in : (a : List ℕ) (t : ℕ) {p : Phase} → w .phase ≡ p → putIn (w .phase) s room w a t ≡ putIn p s room w a t
-  put-in a t h = ap (λ (q : Phase). putIn q s room w a t) h
-
-  pub token-unsound : (a : List ℕ) (t : ℕ) → isSound w ≡ false → putToken s room w a t ≡ refuse 11 w
-  unfolding putToken
-  token-unsound a t e = rw e
-
-  pub token-sound : (a : List ℕ) (t : ℕ) → isSound w ≡ true → putToken s room w a t ≡ putIn (w .phase) s room w a t
-  unfolding putToken
-  token-sound a t e = rw e
-
-  -- an atom that is one needs no check
-  pub put-is-token : (a : List ℕ) (t : ℕ) → isAtom a ≡ true → putAtom s room w a t ≡ putToken s room w a t
-  unfolding putAtom putToken
-  put-is-token a t f = rw f
+  unfolding putItem
+  put-unsound a t e = item-unsound s room w a t false e
 
   pub begin-unsound : (t : ℕ) → isSound w ≡ false → beginList s room w t ≡ refuse 11 w
-  unfolding beginList
-  begin-unsound t e = rw e
-
-  pub begin-sound : (t : ℕ) {p : Phase} → isSound w ≡ true → w .phase ≡ p → beginList s room w t ≡ beginIn p s room w t
-  unfolding beginList
-  begin-sound t e h = rw e (ap (λ (q : Phase). beginIn q s room w t) h)
-
-  pub begin-inner : (t : ℕ) → w .lists < deepest → beginIn Writing s room w t ≡ place room w (inner s w (40 ∷ []) true t)
-  unfolding beginIn
-  begin-inner t h = rw (lt-ltb (w .lists) deepest h)
-
-  pub begin-too-deep : (t : ℕ) → deepest ≤ w .lists → beginIn Writing s room w t ≡ refuse 21 w
-  unfolding beginIn
-  begin-too-deep t h = rw (le-ltb (w .lists) deepest h)
+  unfolding putItem
+  begin-unsound t e = item-unsound s room w [] t true e
 
   pub end-unsound : isSound w ≡ false → endList s room w ≡ refuse 11 w
   unfolding endList

@@ -4,15 +4,11 @@ use Prim.Native.Nat.{ℕ, _+_, _*_, _≤_, _<_, min}
 use native.Mathlib.Omega.{arith}
 use mathlib.Core.Path.{_≡_, sym, _∙_}
 use mathlib.Core.Bool.{Bool, true, false}
-use mathlib.Core.List.{List, _++_}
 use lib.Dec.{leb}
-use lib.ListN.{length}
 use borrow.Author.Tests.{le-leb, lt-leb, leb-true}
 use Rattle.sise_serializer.specs.Serializer.{limit}
-use Rattle.sise_serializer.specs.Parts.{spotOf, Placed}
-use Rattle.sise_serializer.specs.Bytes.{repeat}
+use Rattle.sise_serializer.specs.Parts.{spotOf}
 use Rattle.sise_serializer.specs.declared.buffer.Spot.{Spot}
-use Rattle.sise_serializer.proofs.Bytes.{layout-length}
 use Rattle.sise_util.proofs.Ranges.{split}
 use Rattle.sise_serializer.specs.declared.buffer.Spot.the-variants.{At, NoRoom}
 
@@ -53,8 +49,6 @@ module _ (room at layout token : ℕ) where
       let q : NoRoom ≡ At (at + layout) (at + layout + token) = rw t at h in cc)
       (λ t. t)
 
--- indentations that had room are at most the limit
-pub indents-small : (a : List ℕ) (n : ℕ) (b : List ℕ) {before now token : List ℕ} {at o e : ℕ} {commit : Bool} {r : Spot}
-    → Placed before at (a ++ repeat n b) token commit r now → r ≡ At o e → n * length b ≤ limit
-indents-small a n b {before} {now} {token} {at} h t =
-    omega (arith, found (length before) at (length (a ++ repeat n b)) (length token) (sym t ∙ h .spot) .in-limit, layout-length a n b)
+-- a spot, by other names of the two lengths
+pub spot-as : (room at : ℕ) {layout token m n : ℕ} {r : Spot} → r ≡ spotOf room at layout token → layout ≡ m → token ≡ n → r ≡ spotOf room at m n
+spot-as room at h e f = h ∙ rw (e, f)

@@ -6,8 +6,10 @@ use native.Mathlib.Omega.{arith}
 use mathlib.Core.Path.{_≡_, sym, _∙_}
 use mathlib.Core.Bool.{Bool, true, false, cond}
 use lib.Dec.{leb}
+use lib.ListN.{length}
 use borrow.Author.Tests.{le-leb, lt-leb, leb-true, leb-false}
 use Rattle.sise_util.proofs.Ranges.{split}
+use Rattle.sise_serializer.specs.Parts.{gapBytes}
 
 -- two tests with the same answer
 pub leb-same : (a b c d : ℕ) → (a ≤ b → c ≤ d) → (c ≤ d → a ≤ b) → leb a b ≡ leb c d
@@ -28,3 +30,8 @@ fit-some m n s h =
 pub one-at-most : (b : Bool) → cond b 1 0 ≤ 1
 one-at-most true = omega arith
 one-at-most false = omega arith
+
+-- what stands before an item that stays in its line is a byte at most
+pub gap-short : (joins : Bool) → length (gapBytes joins) ≤ 1
+gap-short true = omega arith
+gap-short false = omega arith

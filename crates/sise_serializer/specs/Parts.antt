@@ -2,12 +2,10 @@
 -- Assumes nothing.
 use Prim.Native.Nat.{ℕ, _+_, _-_, _*_, _≤_, min}
 use mathlib.Core.Bool.{Bool, false, cond}
-use mathlib.Core.Path.{_≡_}
-use mathlib.Core.List.{List, _++_}
+use mathlib.Core.List.{List, [], _∷_}
 use lib.Dec.{leb}
 use lib.ListN.{length, set}
-use Rattle.sise_serializer.specs.Bytes.{pasted}
-use Rattle.sise_serializer.specs.Serializer.{limit, deepest, Piece, phaseAfter, flagsAfter}
+use Rattle.sise_serializer.specs.Serializer.{limit, deepest, Piece, firstAtom, firstList, phaseAfter, flagsAfter}
 use Rattle.sise_serializer.specs.declared.serializer.Phase.the-variants.{Writing}
 use Rattle.sise_serializer.specs.declared.serializer.Serializer.{Serializer}
 use Rattle.sise_serializer.specs.declared.steps.Progress.{Progress}
@@ -19,15 +17,17 @@ unfoldable pub spotOf : ℕ → ℕ → ℕ → ℕ → Spot
 spotOf room at layout token =
     cond (leb (at + layout + token) (min room limit)) (At (at + layout) (at + layout + token)) NoRoom
 
--- the buffer l with the bytes b in it, unless there was no spot
-abbrev pub after : Spot → List ℕ → ℕ → List ℕ → List ℕ
-after (At offset end) l at b = pasted l at b
-after NoRoom l at b = l
+-- an item's token: a `(`, or the atom a
+abbrev pub tokenOf : Bool → List ℕ → List ℕ
+tokenOf isList a = cond isList (40 ∷ []) a
 
--- the contract of `place`
-pub record Placed (before : List ℕ) (at : ℕ) (layout token : List ℕ) (commit : Bool) (r : Spot) (now : List ℕ) : Type 0 where
-  pub spot : r ≡ spotOf (length before) at (length layout) (length token)
-  pub buffer : now ≡ cond commit (after r before at (layout ++ token)) before
+-- what stands before an item that stays in its line: a space, unless it joins what is before it
+abbrev pub gapBytes : Bool → List ℕ
+gapBytes joins = cond joins [] (32 ∷ [])
+
+-- an item before all others
+abbrev pub firstItem : Serializer → List ℕ → Bool → Piece
+firstItem w a isList = cond isList (firstList w) (firstAtom w a)
 
 -- bounds of a sound record, for the sums of the code
 pub record Small (w : Progress) : Type 0 where

@@ -5,7 +5,7 @@ ghost use Prim.Native.Nat.{_+_, _*_, _≤_, min};
 ghost use lib.Dec.{leb};
 ghost use lib.ListN.{length};
 ghost use Rattle.sise_serializer.specs.Bytes.{pasted, repeat};
-ghost use Rattle.sise_serializer.specs.Parts.{spotOf, Placed};
+ghost use Rattle.sise_serializer.specs.Parts.{spotOf, tokenOf, gapBytes};
 
 // The longest text.
 pub const LIMIT: usize = 16777216;
@@ -36,7 +36,7 @@ fn has_room(left: usize, times: usize, size: usize) -> bool
 }
 
 // The spot of a token of `token` bytes behind `lead` bytes and `times` indentations, the whole beginning at `position` in a buffer of `room` bytes.
-fn find_spot(
+pub(crate) fn find_spot(
     position: usize,
     room: usize,
     lead: usize,
@@ -94,40 +94,47 @@ fn copies(buf: &mut [u8], at: usize, times: usize, src: &[u8]) -> usize
     to
 }
 
-// Copies `lead`, then `times` indentations, then `token`.
-fn write(buf: &mut [u8], at: usize, lead: &[u8], times: usize, indentation: &[u8], token: &[u8])
-    requires { ⌜ at + (length (now lead) + times * length (now indentation)) + length (now token) ≤ length (now buf) ⌝ }
-    ensures { λ _. ⌜ now (buf .exit) ≡ pasted (now (buf .entry)) at (now (lead .entry) ++ repeat times (now (indentation .entry)) ++ now (token .entry)) ⌝ }
-{
-    copy(buf, at, lead);
-    let end = copies(buf, at + lead.len(), times, indentation);
-    copy(buf, end, token);
-}
-
-// Writes the three where they have room, if `commit` is on, and leaves the buffer alone otherwise.
-pub fn place(
+// A line break and `times` indentations. Returns where they end.
+pub(crate) fn write_line(
     buf: &mut [u8],
     at: usize,
-    lead: &[u8],
+    line_break: &[u8],
     times: usize,
     indentation: &[u8],
-    token: &[u8],
-    commit: bool,
-) -> Spot
-    ensures { λ r. ⌜ Placed (now (buf .entry)) at (now (lead .entry) ++ repeat times (now (indentation .entry))) (now (token .entry)) commit r (now (buf .exit)) ⌝ }
+) -> usize
+    requires { ⌜ at + length (now «line_break» ++ repeat times (now indentation)) ≤ length (now buf) ⌝ }
+    ensures { λ r. ⌜ r ≡ at + length (now («line_break» .entry) ++ repeat times (now (indentation .entry))) ⌝ }
+    ensures { λ _. ⌜ now (buf .exit) ≡ pasted (now (buf .entry)) at (now («line_break» .entry) ++ repeat times (now (indentation .entry))) ⌝ }
 {
-    let spot = find_spot(
-        at,
-        buf.len(),
-        lead.len(),
-        times,
-        indentation.len(),
-        token.len(),
-    );
-    if commit {
-        if let Spot::At(_, _) = spot {
-            write(buf, at, lead, times, indentation, token);
-        }
+    copy(buf, at, line_break);
+    copies(buf, at + line_break.len(), times, indentation)
+}
+
+// The space before an item that stays in its line, unless it joins what is before it.
+pub(crate) fn write_gap(buf: &mut [u8], at: usize, joins: bool)
+    requires { ⌜ at + length (gapBytes joins) ≤ length (now buf) ⌝ }
+    ensures { λ _. ⌜ now (buf .exit) ≡ pasted (now (buf .entry)) at (gapBytes joins) ⌝ }
+{
+    if !joins {
+        buf[at] = 32;
     }
-    spot
+}
+
+// The bytes of an item's token: a parenthesis, or the atom.
+pub(crate) fn token_len(atom: &[u8], is_list: bool) -> usize
+    ensures { λ r. ⌜ r ≡ length (tokenOf «is_list» (now (atom .entry))) ⌝ }
+{
+    if is_list { 1 } else { atom.len() }
+}
+
+// An item's token.
+pub(crate) fn write_token(buf: &mut [u8], at: usize, atom: &[u8], is_list: bool)
+    requires { ⌜ at + length (tokenOf «is_list» (now atom)) ≤ length (now buf) ⌝ }
+    ensures { λ _. ⌜ now (buf .exit) ≡ pasted (now (buf .entry)) at (tokenOf «is_list» (now (atom .entry))) ⌝ }
+{
+    if is_list {
+        buf[at] = 40;
+    } else {
+        copy(buf, at, atom);
+    }
 }

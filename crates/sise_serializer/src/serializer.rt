@@ -2,10 +2,9 @@
 use crate::steps::Flags;
 use crate::steps::Progress;
 use crate::steps::Step;
-use crate::steps::begin_step;
 use crate::steps::end_step;
 use crate::steps::finish_step;
-use crate::steps::put_atom_step;
+use crate::steps::item_step;
 ghost use mathlib.Core.Path.{_≡_};
 ghost use lib.ListN.{length};
 ghost use Rattle.sise_serializer.specs.Serializer.{freshSerializer, style, isSound, answerAs, numberOf, Does, putAtom, beginList, endList, finishWriting};
@@ -140,15 +139,15 @@ impl Serializer {
     {
         let mut flags = self.line_broken;
         let progress = self.progress();
-        let step = put_atom_step(
+        let step = item_step(
             progress,
             &mut flags,
             line_break,
             indentation,
             buf,
             atom,
+            false,
             break_line_at,
-            true,
         );
         pack(step, flags)
     }
@@ -165,14 +164,15 @@ impl Serializer {
     {
         let mut flags = self.line_broken;
         let progress = self.progress();
-        let step = begin_step(
+        let step = item_step(
             progress,
             &mut flags,
             line_break,
             indentation,
             buf,
-            break_line_at,
+            b"",
             true,
+            break_line_at,
         );
         pack(step, flags)
     }
@@ -183,7 +183,7 @@ impl Serializer {
     {
         let mut flags = self.line_broken;
         let progress = self.progress();
-        let step = end_step(progress, &mut flags, line_break, indentation, buf, true);
+        let step = end_step(progress, &mut flags, line_break, indentation, buf);
         pack(step, flags)
     }
 
@@ -206,7 +206,6 @@ impl Serializer {
             indentation,
             buf,
             insert_line_break,
-            true,
         );
         pack(step, flags)
     }

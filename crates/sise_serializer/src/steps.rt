@@ -1,20 +1,26 @@
-// The writer's calls as steps over a small record. The flags, which are large, are lent beside it. With `commit` off a step does all but write.
-// Each arm of a `match` returns by itself: what an arm yields would be copied once more.
+// The writer's calls as steps over a small record. The flags, which are large, are lent beside it. A step finds out whether it fits before it writes.
+// Each arm of a `match` returns by itself: what an arm yields would be copied once more. An atom and a list take one way through one function each:
+// a function with one caller becomes a part of it, and then the record stays in registers.
 use crate::buffer::LIMIT;
 use crate::buffer::Spot;
-use crate::buffer::place;
+use crate::buffer::find_spot;
+use crate::buffer::token_len;
+use crate::buffer::write_gap;
+use crate::buffer::write_line;
+use crate::buffer::write_token;
 use crate::serializer::Phase;
 use crate::serializer::Put;
 use crate::serializer::Serializer;
 use sise_util::check_atom;
 ghost use mathlib.Core.Path.{_≡_};
-ghost use mathlib.Core.Bool.{Bool, true, false, cond};
+ghost use mathlib.Core.Bool.{Bool, true, false, _||_, cond};
 ghost use mathlib.Core.List.{List, []};
 ghost use Prim.Native.Nat.{_≤_, _<_};
 ghost use lib.ListN.{length, replicate};
-ghost use Rattle.sise_serializer.specs.Parts.{Small, closedWith, addedWith, inLine};
-ghost use Rattle.sise_serializer.specs.Serializer.{freshSerializer, style, deepest, listsFit, lastBreak, isSound, phaseAfter, flagsAfter, place, firstAtom, firstList, newLine, innerAs, inner, close, last, putIn, putAtom, beginList, endList, finishWriting};
-ghost use Rattle.sise_serializer.specs.Steps.{joined, Steps, putToken};
+ghost use Rattle.sise_util.specs.Atom.{isAtom};
+ghost use Rattle.sise_serializer.specs.Parts.{Small, closedWith, addedWith, inLine, tokenOf, gapBytes, firstItem};
+ghost use Rattle.sise_serializer.specs.Serializer.{freshSerializer, style, deepest, listsFit, lastBreak, isSound, phaseAfter, flagsAfter, place, newLine, innerAs, inner, close, last, endList, finishWriting};
+ghost use Rattle.sise_serializer.specs.Steps.{joined, Steps, putItem};
 
 // The most open lists.
 const DEEPEST: usize = 200;
@@ -149,42 +155,42 @@ fn refused(progress: Progress, answer: Put) -> Step
 
 // ---- an atom or a list as the first item
 
-fn first_atom(progress: Progress, buf: &mut [u8], atom: &[u8], commit: bool) -> Step
-    ensures { λ r. ⌜ ((flags : List Bool) → Steps (place (length (now (buf .entry))) (joined progress flags) (firstAtom (joined progress flags) (now (atom .entry)))) (joined progress flags) commit (now (buf .entry)) r flags (now (buf .exit))) ⌝ }
+fn first_item(
+    progress: Progress,
+    flags: &mut Flags,
+    buf: &mut [u8],
+    atom: &[u8],
+    is_list: bool,
+) -> Step
+    ensures { λ r. ⌜ Steps (place (length (now (buf .entry))) (joined progress (now (flags .entry))) (firstItem (joined progress (now (flags .entry))) (now (atom .entry)) «is_list»)) (joined progress (now (flags .entry))) (now (buf .entry)) r (now (flags .exit)) (now (buf .exit)) ⌝ }
 {
     let position = progress.position;
-    match place(buf, position, b"", 0, b"", atom, commit) {
-        Spot::At(at, end) => return Step {
-            progress: Progress {
-                position: end,
-                phase: Phase::Finished,
-                lists: 0,
-                list_beginning: progress.list_beginning,
-                line_len: progress.line_len,
-                spaces: progress.spaces,
-                breaks: progress.breaks,
-                indents: progress.indents,
-            },
-            answer: Put::At(at),
-        },
-        Spot::NoRoom => return refused(progress, Put::NoRoom),
-    }
-}
-
-fn first_list(progress: Progress, flags: &mut Flags, buf: &mut [u8], commit: bool) -> Step
-    ensures { λ r. ⌜ Steps (place (length (now (buf .entry))) (joined progress (now (flags .entry))) (firstList (joined progress (now (flags .entry))))) (joined progress (now (flags .entry))) commit (now (buf .entry)) r (now (flags .exit)) (now (buf .exit)) ⌝ }
-{
-    let position = progress.position;
-    match place(buf, position, b"", 0, b"", b"(", commit) {
+    match find_spot(position, buf.len(), 0, 0, 0, token_len(atom, is_list)) {
         Spot::At(at, end) => {
-            flags[0] = false;
+            write_token(buf, at, atom, is_list);
+            if is_list {
+                flags[0] = false;
+                return Step {
+                    progress: Progress {
+                        position: end,
+                        phase: Phase::Writing,
+                        lists: 1,
+                        list_beginning: true,
+                        line_len: 1,
+                        spaces: progress.spaces,
+                        breaks: progress.breaks,
+                        indents: progress.indents,
+                    },
+                    answer: Put::At(at),
+                };
+            }
             return Step {
                 progress: Progress {
                     position: end,
-                    phase: Phase::Writing,
-                    lists: 1,
-                    list_beginning: true,
-                    line_len: 1,
+                    phase: Phase::Finished,
+                    lists: 0,
+                    list_beginning: progress.list_beginning,
+                    line_len: progress.line_len,
                     spaces: progress.spaces,
                     breaks: progress.breaks,
                     indents: progress.indents,
@@ -233,35 +239,30 @@ fn added(
 fn on_new_line(
     progress: Progress,
     flags: &mut Flags,
-    token: &[u8],
-    is_list: bool,
     line_break: &[u8],
     indentation: &[u8],
     buf: &mut [u8],
-    commit: bool,
+    atom: &[u8],
+    is_list: bool,
 ) -> Step
     requires { ⌜ (Small progress × (0 < progress .lists)) × («is_list» ≡ true → progress .lists < 200) ⌝ }
-    ensures { λ r. ⌜ Steps (place (length (now (buf .entry))) (joined progress (now (flags .entry))) (innerAs (style (now («line_break» .entry)) (now (indentation .entry))) (joined progress (now (flags .entry))) (now (token .entry)) «is_list» newLine)) (joined progress (now (flags .entry))) commit (now (buf .entry)) r (now (flags .exit)) (now (buf .exit)) ⌝ }
+    ensures { λ r. ⌜ Steps (place (length (now (buf .entry))) (joined progress (now (flags .entry))) (innerAs (style (now («line_break» .entry)) (now (indentation .entry))) (joined progress (now (flags .entry))) (tokenOf «is_list» (now (atom .entry))) «is_list» newLine)) (joined progress (now (flags .entry))) (now (buf .entry)) r (now (flags .exit)) (now (buf .exit)) ⌝ }
 {
     let position = progress.position;
     let lists = progress.lists;
-    match place(buf, position, line_break, lists, indentation, token, commit) {
+    let size = indentation.len();
+    let token = token_len(atom, is_list);
+    match find_spot(position, buf.len(), line_break.len(), lists, size, token) {
         Spot::At(at, end) => {
+            write_line(buf, position, line_break, lists, indentation);
+            write_token(buf, at, atom, is_list);
             flags[lists - 1] = true;
-            let line = lists * indentation.len() + token.len();
+            let line = lists * size + token;
             let breaks = progress.breaks + 1;
             let indents = progress.indents + lists;
+            let spaces = progress.spaces;
             return Step {
-                progress: added(
-                    lists,
-                    flags,
-                    is_list,
-                    end,
-                    line,
-                    progress.spaces,
-                    breaks,
-                    indents,
-                ),
+                progress: added(lists, flags, is_list, end, line, spaces, breaks, indents),
                 answer: Put::At(at),
             };
         }
@@ -269,36 +270,38 @@ fn on_new_line(
     }
 }
 
-// An item in the same line, behind `lead`: a space or nothing.
+// How many spaces stand before an item that stays in its line.
+fn spaces_before(list_beginning: bool) -> usize
+    ensures { λ r. ⌜ r ≡ length (gapBytes «list_beginning») ⌝ }
+{
+    if list_beginning { 0 } else { 1 }
+}
+
+// An item in the same line, behind a space unless it is the first of its list.
 fn in_line(
     progress: Progress,
     flags: &mut Flags,
-    token: &[u8],
-    is_list: bool,
-    lead: &[u8],
     buf: &mut [u8],
-    commit: bool,
+    atom: &[u8],
+    is_list: bool,
 ) -> Step
-    requires { ⌜ (Small progress × (length (now lead) ≤ 1)) × («is_list» ≡ true → progress .lists < 200) ⌝ }
-    ensures { λ r. ⌜ Steps (place (length (now (buf .entry))) (joined progress (now (flags .entry))) (inLine (joined progress (now (flags .entry))) (now (token .entry)) «is_list» (now (lead .entry)))) (joined progress (now (flags .entry))) commit (now (buf .entry)) r (now (flags .exit)) (now (buf .exit)) ⌝ }
+    requires { ⌜ Small progress × («is_list» ≡ true → progress .lists < 200) ⌝ }
+    ensures { λ r. ⌜ Steps (place (length (now (buf .entry))) (joined progress (now (flags .entry))) (inLine (joined progress (now (flags .entry))) (tokenOf «is_list» (now (atom .entry))) «is_list» (gapBytes (progress .«list_beginning»)))) (joined progress (now (flags .entry))) (now (buf .entry)) r (now (flags .exit)) (now (buf .exit)) ⌝ }
 {
     let position = progress.position;
     let lists = progress.lists;
-    match place(buf, position, lead, 0, b"", token, commit) {
+    let lead = spaces_before(progress.list_beginning);
+    let token = token_len(atom, is_list);
+    match find_spot(position, buf.len(), lead, 0, 0, token) {
         Spot::At(at, end) => {
-            let line = progress.line_len + lead.len() + token.len();
-            let spaces = progress.spaces + lead.len();
+            write_gap(buf, position, progress.list_beginning);
+            write_token(buf, at, atom, is_list);
+            let line = progress.line_len + lead + token;
+            let spaces = progress.spaces + lead;
+            let breaks = progress.breaks;
+            let indents = progress.indents;
             return Step {
-                progress: added(
-                    lists,
-                    flags,
-                    is_list,
-                    end,
-                    line,
-                    spaces,
-                    progress.breaks,
-                    progress.indents,
-                ),
+                progress: added(lists, flags, is_list, end, line, spaces, breaks, indents),
                 answer: Put::At(at),
             };
         }
@@ -310,162 +313,80 @@ fn in_line(
 fn inner(
     progress: Progress,
     flags: &mut Flags,
-    token: &[u8],
-    is_list: bool,
     line_break: &[u8],
     indentation: &[u8],
     buf: &mut [u8],
+    atom: &[u8],
+    is_list: bool,
     break_line_at: u64,
-    commit: bool,
 ) -> Step
     requires { ⌜ (Small progress × (0 < progress .lists)) × («is_list» ≡ true → progress .lists < 200) ⌝ }
-    ensures { λ r. ⌜ Steps (place (length (now (buf .entry))) (joined progress (now (flags .entry))) (inner (style (now («line_break» .entry)) (now (indentation .entry))) (joined progress (now (flags .entry))) (now (token .entry)) «is_list» «break_line_at»)) (joined progress (now (flags .entry))) commit (now (buf .entry)) r (now (flags .exit)) (now (buf .exit)) ⌝ }
+    ensures { λ r. ⌜ Steps (place (length (now (buf .entry))) (joined progress (now (flags .entry))) (inner (style (now («line_break» .entry)) (now (indentation .entry))) (joined progress (now (flags .entry))) (tokenOf «is_list» (now (atom .entry))) «is_list» «break_line_at»)) (joined progress (now (flags .entry))) (now (buf .entry)) r (now (flags .exit)) (now (buf .exit)) ⌝ }
 {
-    let line = progress.line_len as u64;
-    if break_line_at <= line {
-        return on_new_line(
-            progress,
-            flags,
-            token,
-            is_list,
-            line_break,
-            indentation,
-            buf,
-            commit,
-        );
+    if break_line_at <= progress.line_len as u64 {
+        return on_new_line(progress, flags, line_break, indentation, buf, atom, is_list);
     }
-    if progress.list_beginning {
-        return in_line(progress, flags, token, is_list, b"", buf, commit);
-    }
-    in_line(progress, flags, token, is_list, b" ", buf, commit)
+    in_line(progress, flags, buf, atom, is_list)
 }
 
 // ---- the steps
 
-// An atom that is one, into a sound record.
-fn put_sound(
-    progress: Progress,
-    flags: &mut Flags,
-    line_break: &[u8],
-    indentation: &[u8],
-    buf: &mut [u8],
-    atom: &[u8],
-    break_line_at: u64,
-    commit: bool,
-) -> Step
-    requires { ⌜ isSound (joined progress (now flags)) ≡ true ⌝ }
-    ensures { λ r. ⌜ Steps (putIn (progress .phase) (style (now («line_break» .entry)) (now (indentation .entry))) (length (now (buf .entry))) (joined progress (now (flags .entry))) (now (atom .entry)) «break_line_at») (joined progress (now (flags .entry))) commit (now (buf .entry)) r (now (flags .exit)) (now (buf .exit)) ⌝ }
+// Whether a list, or what should be an atom, can be put.
+fn is_item(atom: &[u8], is_list: bool) -> bool
+    ensures { λ r. ⌜ r ≡ («is_list» || isAtom (now (atom .entry))) ⌝ }
 {
-    let phase = progress.phase;
-    match phase {
-        Phase::Beginning => return first_atom(progress, buf, atom, commit),
-        Phase::Writing => return inner(
-            progress,
-            flags,
-            atom,
-            false,
-            line_break,
-            indentation,
-            buf,
-            break_line_at,
-            commit,
-        ),
-        Phase::Finished => return refused(progress, Put::WritingFinished),
-        Phase::Done => return refused(progress, Put::WritingFinished),
+    if is_list {
+        return true;
     }
+    check_atom(atom)
 }
 
-// Puts an atom that its caller has checked. In a list it goes on a new line if the line is at least `break_line_at` bytes long.
-pub fn put_step(
+// Whether a list would be one too many.
+fn is_too_deep(lists: usize, is_list: bool) -> bool
+    ensures yes { λ r. ⌜ (r ≡ true → («is_list» ≡ true) × (deepest ≤ lists)) ⌝ }
+    ensures no { λ r. ⌜ (r ≡ false → «is_list» ≡ true → lists < deepest) ⌝ }
+{
+    if is_list {
+        return DEEPEST <= lists;
+    }
+    false
+}
+
+// Begins a list, or checks an atom and puts it. Inside a list it goes on a new line if the line is at least `break_line_at` bytes long.
+pub fn item_step(
     progress: Progress,
     flags: &mut Flags,
     line_break: &[u8],
     indentation: &[u8],
     buf: &mut [u8],
     atom: &[u8],
+    is_list: bool,
     break_line_at: u64,
-    commit: bool,
 ) -> Step
-    ensures { λ r. ⌜ Steps (putToken (style (now («line_break» .entry)) (now (indentation .entry))) (length (now (buf .entry))) (joined progress (now (flags .entry))) (now (atom .entry)) «break_line_at») (joined progress (now (flags .entry))) commit (now (buf .entry)) r (now (flags .exit)) (now (buf .exit)) ⌝ }
+    ensures { λ r. ⌜ Steps (putItem (style (now («line_break» .entry)) (now (indentation .entry))) (length (now (buf .entry))) (joined progress (now (flags .entry))) (now (atom .entry)) «is_list» «break_line_at») (joined progress (now (flags .entry))) (now (buf .entry)) r (now (flags .exit)) (now (buf .exit)) ⌝ }
 {
     if !progress.is_sound() {
         return refused(progress, Put::UnsoundRecord);
     }
-    put_sound(
-        progress,
-        flags,
-        line_break,
-        indentation,
-        buf,
-        atom,
-        break_line_at,
-        commit,
-    )
-}
-
-// Checks an atom and puts it.
-pub fn put_atom_step(
-    progress: Progress,
-    flags: &mut Flags,
-    line_break: &[u8],
-    indentation: &[u8],
-    buf: &mut [u8],
-    atom: &[u8],
-    break_line_at: u64,
-    commit: bool,
-) -> Step
-    ensures { λ r. ⌜ Steps (putAtom (style (now («line_break» .entry)) (now (indentation .entry))) (length (now (buf .entry))) (joined progress (now (flags .entry))) (now (atom .entry)) «break_line_at») (joined progress (now (flags .entry))) commit (now (buf .entry)) r (now (flags .exit)) (now (buf .exit)) ⌝ }
-{
-    if !progress.is_sound() {
-        return refused(progress, Put::UnsoundRecord);
-    }
-    if !check_atom(atom) {
+    if !is_item(atom, is_list) {
         return refused(progress, Put::InvalidAtom);
     }
-    put_sound(
-        progress,
-        flags,
-        line_break,
-        indentation,
-        buf,
-        atom,
-        break_line_at,
-        commit,
-    )
-}
-
-// Begins a list. Inside another it goes on a new line if the line is at least `break_line_at` bytes long.
-pub fn begin_step(
-    progress: Progress,
-    flags: &mut Flags,
-    line_break: &[u8],
-    indentation: &[u8],
-    buf: &mut [u8],
-    break_line_at: u64,
-    commit: bool,
-) -> Step
-    ensures { λ r. ⌜ Steps (beginList (style (now («line_break» .entry)) (now (indentation .entry))) (length (now (buf .entry))) (joined progress (now (flags .entry))) «break_line_at») (joined progress (now (flags .entry))) commit (now (buf .entry)) r (now (flags .exit)) (now (buf .exit)) ⌝ }
-{
-    if !progress.is_sound() {
-        return refused(progress, Put::UnsoundRecord);
-    }
     let phase = progress.phase;
     match phase {
-        Phase::Beginning => return first_list(progress, flags, buf, commit),
+        Phase::Beginning => return first_item(progress, flags, buf, atom, is_list),
         Phase::Writing => {
-            if DEEPEST <= progress.lists {
+            if is_too_deep(progress.lists, is_list) {
                 return refused(progress, Put::TooDeep);
             }
             return inner(
                 progress,
                 flags,
-                b"(",
-                true,
                 line_break,
                 indentation,
                 buf,
+                atom,
+                is_list,
                 break_line_at,
-                commit,
             );
         }
         Phase::Finished => return refused(progress, Put::WritingFinished),
@@ -533,17 +454,19 @@ fn close(
     line_break: &[u8],
     indentation: &[u8],
     buf: &mut [u8],
-    commit: bool,
 ) -> Step
     requires { ⌜ Small progress × (0 < progress .lists) ⌝ }
-    ensures { λ r. ⌜ Steps (place (length (now (buf .entry))) (joined progress (now (flags .entry))) (close (style (now («line_break» .entry)) (now (indentation .entry))) (joined progress (now (flags .entry))))) (joined progress (now (flags .entry))) commit (now (buf .entry)) r (now (flags .exit)) (now (buf .exit)) ⌝ }
+    ensures { λ r. ⌜ Steps (place (length (now (buf .entry))) (joined progress (now (flags .entry))) (close (style (now («line_break» .entry)) (now (indentation .entry))) (joined progress (now (flags .entry))))) (joined progress (now (flags .entry))) (now (buf .entry)) r (now (flags .exit)) (now (buf .exit)) ⌝ }
 {
     let position = progress.position;
     let d = progress.lists - 1;
+    let size = indentation.len();
     if flags[d] {
-        match place(buf, position, line_break, d, indentation, b")", commit) {
+        match find_spot(position, buf.len(), line_break.len(), d, size, 1) {
             Spot::At(at, end) => {
-                let line = d * indentation.len() + 1;
+                write_line(buf, position, line_break, d, indentation);
+                buf[at] = 41;
+                let line = d * size + 1;
                 let breaks = progress.breaks + 1;
                 let indents = progress.indents + d;
                 return Step {
@@ -554,19 +477,14 @@ fn close(
             Spot::NoRoom => return refused(progress, Put::NoRoom),
         }
     } else {
-        match place(buf, position, b"", 0, b"", b")", commit) {
+        match find_spot(position, buf.len(), 0, 0, 0, 1) {
             Spot::At(at, end) => {
+                buf[at] = 41;
                 let line = progress.line_len + 1;
+                let breaks = progress.breaks;
+                let indents = progress.indents;
                 return Step {
-                    progress: closed(
-                        progress,
-                        flags,
-                        false,
-                        end,
-                        line,
-                        progress.breaks,
-                        progress.indents,
-                    ),
+                    progress: closed(progress, flags, false, end, line, breaks, indents),
                     answer: Put::At(at),
                 };
             }
@@ -582,9 +500,8 @@ pub fn end_step(
     line_break: &[u8],
     indentation: &[u8],
     buf: &mut [u8],
-    commit: bool,
 ) -> Step
-    ensures { λ r. ⌜ Steps (endList (style (now («line_break» .entry)) (now (indentation .entry))) (length (now (buf .entry))) (joined progress (now (flags .entry)))) (joined progress (now (flags .entry))) commit (now (buf .entry)) r (now (flags .exit)) (now (buf .exit)) ⌝ }
+    ensures { λ r. ⌜ Steps (endList (style (now («line_break» .entry)) (now (indentation .entry))) (length (now (buf .entry))) (joined progress (now (flags .entry)))) (joined progress (now (flags .entry))) (now (buf .entry)) r (now (flags .exit)) (now (buf .exit)) ⌝ }
 {
     if !progress.is_sound() {
         return refused(progress, Put::UnsoundRecord);
@@ -592,7 +509,7 @@ pub fn end_step(
     let phase = progress.phase;
     match phase {
         Phase::Beginning => return refused(progress, Put::NoListToEnd),
-        Phase::Writing => return close(progress, flags, line_break, indentation, buf, commit),
+        Phase::Writing => return close(progress, flags, line_break, indentation, buf),
         Phase::Finished => return refused(progress, Put::WritingFinished),
         Phase::Done => return refused(progress, Put::WritingFinished),
     }
@@ -606,32 +523,29 @@ fn one_if(wished: bool) -> usize
 }
 
 // The end of the text, with a line break if wished.
-fn last(
-    progress: Progress,
-    line_break: &[u8],
-    buf: &mut [u8],
-    insert_line_break: bool,
-    commit: bool,
-) -> Step
+fn last(progress: Progress, line_break: &[u8], buf: &mut [u8], insert_line_break: bool) -> Step
     requires { ⌜ Small progress ⌝ }
-    ensures { λ r. ⌜ ((flags : List Bool) → Steps (place (length (now (buf .entry))) (joined progress flags) (last (style (now («line_break» .entry)) []) (joined progress flags) «insert_line_break»)) (joined progress flags) commit (now (buf .entry)) r flags (now (buf .exit))) ⌝ }
+    ensures { λ r. ⌜ ((flags : List Bool) → Steps (place (length (now (buf .entry))) (joined progress flags) (last (style (now («line_break» .entry)) []) (joined progress flags) «insert_line_break»)) (joined progress flags) (now (buf .entry)) r flags (now (buf .exit))) ⌝ }
 {
     let position = progress.position;
     let times = one_if(insert_line_break);
-    match place(buf, position, b"", times, line_break, b"", commit) {
-        Spot::At(at, end) => return Step {
-            progress: Progress {
-                position: end,
-                phase: Phase::Done,
-                lists: progress.lists,
-                list_beginning: progress.list_beginning,
-                line_len: progress.line_len,
-                spaces: progress.spaces,
-                breaks: progress.breaks + times,
-                indents: progress.indents,
-            },
-            answer: Put::At(at),
-        },
+    match find_spot(position, buf.len(), 0, times, line_break.len(), 0) {
+        Spot::At(at, end) => {
+            write_line(buf, position, b"", times, line_break);
+            return Step {
+                progress: Progress {
+                    position: end,
+                    phase: Phase::Done,
+                    lists: progress.lists,
+                    list_beginning: progress.list_beginning,
+                    line_len: progress.line_len,
+                    spaces: progress.spaces,
+                    breaks: progress.breaks + times,
+                    indents: progress.indents,
+                },
+                answer: Put::At(at),
+            };
+        }
         Spot::NoRoom => return refused(progress, Put::NoRoom),
     }
 }
@@ -644,9 +558,8 @@ pub fn finish_step(
     indentation: &[u8],
     buf: &mut [u8],
     insert_line_break: bool,
-    commit: bool,
 ) -> Step
-    ensures { λ r. ⌜ Steps (finishWriting (style (now («line_break» .entry)) (now (indentation .entry))) (length (now (buf .entry))) (joined progress (now (flags .entry))) «insert_line_break») (joined progress (now (flags .entry))) commit (now (buf .entry)) r (now (flags .exit)) (now (buf .exit)) ⌝ }
+    ensures { λ r. ⌜ Steps (finishWriting (style (now («line_break» .entry)) (now (indentation .entry))) (length (now (buf .entry))) (joined progress (now (flags .entry))) «insert_line_break») (joined progress (now (flags .entry))) (now (buf .entry)) r (now (flags .exit)) (now (buf .exit)) ⌝ }
 {
     if !progress.is_sound() {
         return refused(progress, Put::UnsoundRecord);
@@ -655,7 +568,7 @@ pub fn finish_step(
     match phase {
         Phase::Beginning => return refused(progress, Put::WritingNotFinished),
         Phase::Writing => return refused(progress, Put::WritingNotFinished),
-        Phase::Finished => return last(progress, line_break, buf, insert_line_break, commit),
+        Phase::Finished => return last(progress, line_break, buf, insert_line_break),
         Phase::Done => return refused(progress, Put::WritingFinished),
     }
 }

@@ -1,21 +1,21 @@
 -- The flag of the innermost list picks the case of the definition; there the close stands in the buffer or has no room.
 -- Assumes nothing.
-use Prim.Native.Nat.{_-_, _*_, _≤_}
+use native.Mathlib.Nat.{add-zero}
 use native.Mathlib.Omega.{arith}
-use lib.ListN.{length}
+use mathlib.Core.Path.{_≡_, refl, sym, _∙_}
+use mathlib.Core.List.{[], _∷_}
+use Prim.Native.Nat.{_-_}
 use borrow.Author.Needs.{needs}
-use Rattle.sise_serializer.specs.Serializer.{Style, limit, style, closeAs}
-use Rattle.sise_serializer.proofs.Spots.{indents-small}
+use Rattle.sise_serializer.specs.Serializer.{Style, style, newLineOf, closeAs}
+use Rattle.sise_serializer.proofs.Bytes.{layout-length, pasted-one, pasted-behind}
+use Rattle.sise_serializer.proofs.Spots.{found, spot-as}
 use Rattle.sise_serializer.proofs.Does.{closed-steps, close-full-steps}
 use Rattle.sise_serializer.proofs.steps.close.Statement.{statement}
 use Rattle.sise_serializer.proofs.steps.close.Tie as tie
 
--- the function's entry, and its style
-abbrev start : tie.After-if12 → tie.Start
-start c = c .before .before .before .before .before
-
-abbrev styled : tie.After-if12 → Style
-styled c = style (start c .args .line-break .now) (start c .args .indentation .now)
+-- the style
+abbrev styled : tie.Start → Style
+styled c = style (c .args .line-break .now) (c .args .indentation .now)
 
 sub-d : tie.Need-sub-d
 sub-d c = search needs
@@ -23,26 +23,27 @@ sub-d c = search needs
 element-copy-out-if1 : tie.Need-element-copy-out-if1
 element-copy-out-if1 c = search needs
 
-slice-aggregate-place : tie.Need-slice-aggregate-place
-slice-aggregate-place c = search needs
-
-place-requires : tie.Need-place-requires
-place-requires c κs = search needs
+find-spot-requires : tie.Need-find-spot-requires
+find-spot-requires c κs = search needs
 
 enum-known-at : tie.Need-enum-known-at
 enum-known-at c = search needs
 
--- what found room is few bytes
-few : (c : tie.After-at) → (start (c .before .before .before .before .before .before .before .before) .args .progress .lists - 1) * length (start (c .before .before .before .before .before .before .before .before) .args .indentation .now) ≤ limit
-few c =
-    let a = start (c .before .before .before .before .before .before .before .before) .args in
-    indents-small (a .line-break .now) (a .progress .lists - 1) (a .indentation .now) (c .before .before .before .before .place .ensures) (c .at .given .1)
+write-line-requires : tie.Need-write-line-requires
+write-line-requires c κs =
+    let a = c .before .before .before .before .before .before .before .before .before .before .before .args in
+    omega (arith, found _ _ _ _ (sym (c .before .before .at .given .1) ∙ c .before .before .before .before .find-spot .ensures) .in-room, layout-length (a .line-break .now) (a .progress .lists - 1) (a .indentation .now))
+
+slice-write-buf : tie.Need-slice-write-buf
+slice-write-buf c =
+    let h = found _ _ _ _ (sym (c .before .before .before .before .before .at .given .1) ∙ c .before .before .before .before .before .before .before .find-spot .ensures) in
+    omega (arith, h .in-room, h .offset)
 
 mul-line : tie.Need-mul-line
-mul-line c = omega (arith, few (c .before))
+mul-line c = omega (arith, found _ _ _ _ (sym (c .before .before .before .before .before .at .given .1) ∙ c .before .before .before .before .before .before .before .find-spot .ensures) .in-limit)
 
 add-line : tie.Need-add-line
-add-line c = omega (arith, few (c .before))
+add-line c = omega (arith, found _ _ _ _ (sym (c .before .before .before .before .before .at .given .1) ∙ c .before .before .before .before .before .before .before .find-spot .ensures) .in-limit)
 
 add-breaks : tie.Need-add-breaks
 add-breaks c = search needs
@@ -59,11 +60,13 @@ same-length c = search needs
 returns : tie.Need-returns
 unfolding closeAs
 returns c =
-    let at = c .before .before .before .before .before in
-    let pl = at .before .before .before .before in
-    let arm = pl .before .before .before in
-    let a = start (arm .before) .args in
-    closed-steps (styled (arm .before)) (a .progress) (a .flags .now) (a .commit) (arm .if1 .taken) (pl .place .ensures) (at .at .given .1) (c .closed .ensures)
+    let a = c .before .before .before .before .before .before .before .before .before .before .before .before .before .before .before .before .before .before .args in
+    let n = a .progress .lists - 1 in
+    let size = layout-length (a .line-break .now) n (a .indentation .now) in
+    let t = c .before .before .before .before .before .before .before .before .before .at .given .1 in
+    let h = found _ _ _ _ (sym t ∙ c .before .before .before .before .before .before .before .before .before .before .before .find-spot .ensures) in
+    closed-steps (styled (c .before .before .before .before .before .before .before .before .before .before .before .before .before .before .before .before .before .before)) (a .progress) (a .flags .now) (c .before .before .before .before .before .before .before .before .before .before .before .before .if1 .taken) (spot-as _ _ (c .before .before .before .before .before .before .before .before .before .before .before .find-spot .ensures) (sym size) refl) t (c .closed .ensures)
+    (pasted-behind (a .buf .now) (a .progress .position) (newLineOf (styled (c .before .before .before .before .before .before .before .before .before .before .before .before .before .before .before .before .before .before)) n) (41 ∷ []) (c .before .before .before .before .before .before .write-line .ensures .1) (h .offset ∙ rw size) (pasted-one _ _ 41 (omega (arith, h .in-room, h .offset))) (omega (arith, size, h .in-room)))
 
 enum-told : tie.Need-enum-told
 enum-told c = search needs
@@ -71,31 +74,22 @@ enum-told c = search needs
 refused-requires : tie.Need-refused-requires
 refused-requires c κs = search needs
 
-same-length-2 : tie.Need-same-length-2
-same-length-2 c = search needs
-
 returns-2 : tie.Need-returns-2
 unfolding closeAs
 returns-2 c =
-    let pl = c .before .before .before .before .before in
-    let arm = pl .before .before .before in
-    let a = start (arm .before) .args in
-    close-full-steps (styled (arm .before)) (a .progress) (a .flags .now) (a .commit) (arm .if1 .taken) (pl .place .ensures) (c .refused .ensures) (c .before .enum-told .given .1)
+    let a = c .before .before .before .before .before .before .before .before .before .before .args in
+    close-full-steps (styled (c .before .before .before .before .before .before .before .before .before .before)) (a .progress) (a .flags .now) (c .before .before .before .before .if1 .taken) (spot-as _ _ (c .before .before .before .find-spot .ensures) (sym (layout-length (a .line-break .now) (a .progress .lists - 1) (a .indentation .now))) refl) (c .refused .ensures) (c .before .enum-told .given .1)
 
-slice-aggregate-place-2 : tie.Need-slice-aggregate-place-2
-slice-aggregate-place-2 c = search needs
-
-slice-aggregate-place-3 : tie.Need-slice-aggregate-place-3
-slice-aggregate-place-3 c = search needs
-
-slice-aggregate-place-4 : tie.Need-slice-aggregate-place-4
-slice-aggregate-place-4 c = search needs
-
-place-requires-2 : tie.Need-place-requires-2
-place-requires-2 c κs = search needs
+find-spot-requires-2 : tie.Need-find-spot-requires-2
+find-spot-requires-2 c κs = search needs
 
 enum-known-at-2 : tie.Need-enum-known-at-2
 enum-known-at-2 c = search needs
+
+slice-write-buf-2 : tie.Need-slice-write-buf-2
+slice-write-buf-2 c =
+    let h = found _ _ _ _ (sym (c .before .at2 .given .1) ∙ c .before .before .before .find-spot2 .ensures) in
+    omega (arith, h .in-room, h .offset)
 
 add-line-2 : tie.Need-add-line-2
 add-line-2 c = search needs
@@ -103,17 +97,17 @@ add-line-2 c = search needs
 closed-requires-2 : tie.Need-closed-requires-2
 closed-requires-2 c κs = search needs
 
-same-length-3 : tie.Need-same-length-3
-same-length-3 c = search needs
+same-length-2 : tie.Need-same-length-2
+same-length-2 c = search needs
 
 returns-3 : tie.Need-returns-3
 unfolding closeAs
 returns-3 c =
-    let at = c .before .before .before .before in
-    let pl = at .before .before .before .before in
-    let arm = pl .before .before .before .before .before in
-    let a = start (arm .before) .args in
-    closed-steps (styled (arm .before)) (a .progress) (a .flags .now) (a .commit) (arm .if1 .left) (pl .place2 .ensures) (at .at2 .given .1) (c .closed2 .ensures)
+    let a = c .before .before .before .before .before .before .before .before .before .before .before .before .before .args in
+    let t = c .before .before .before .before .at2 .given .1 in
+    let h = found _ _ _ _ (sym t ∙ c .before .before .before .before .before .before .find-spot2 .ensures) in
+    closed-steps (styled (c .before .before .before .before .before .before .before .before .before .before .before .before .before)) (a .progress) (a .flags .now) (c .before .before .before .before .before .before .before .if1 .left) (c .before .before .before .before .before .before .find-spot2 .ensures) t (c .closed2 .ensures)
+    (pasted-one (a .buf .now) _ 41 (omega (arith, h .in-room, h .offset)) ∙ rw (h .offset, add-zero (a .progress .position)))
 
 enum-told-2 : tie.Need-enum-told-2
 enum-told-2 c = search needs
@@ -121,18 +115,39 @@ enum-told-2 c = search needs
 refused-requires-2 : tie.Need-refused-requires-2
 refused-requires-2 c κs = search needs
 
-same-length-4 : tie.Need-same-length-4
-same-length-4 c = search needs
-
 returns-4 : tie.Need-returns-4
 unfolding closeAs
 returns-4 c =
-    let pl = c .before .before .before .before .before in
-    let arm = pl .before .before .before .before .before in
-    let a = start (arm .before) .args in
-    close-full-steps (styled (arm .before)) (a .progress) (a .flags .now) (a .commit) (arm .if1 .left) (pl .place2 .ensures) (c .refused2 .ensures) (c .before .enum-told2 .given .1)
+    let a = c .before .before .before .before .before .before .before .before .before .before .args in
+    close-full-steps (styled (c .before .before .before .before .before .before .before .before .before .before)) (a .progress) (a .flags .now) (c .before .before .before .before .if1 .left) (c .before .before .before .find-spot2 .ensures) (c .refused2 .ensures) (c .before .enum-told2 .given .1)
 
 pub close-spec : {M : Type 1} → statement M
 close-spec =
     tie.close
-    (tie.spec sub-d element-copy-out-if1 slice-aggregate-place place-requires enum-known-at mul-line add-line add-breaks add-indents closed-requires same-length returns enum-told refused-requires same-length-2 returns-2 slice-aggregate-place-2 slice-aggregate-place-3 slice-aggregate-place-4 place-requires-2 enum-known-at-2 add-line-2 closed-requires-2 same-length-3 returns-3 enum-told-2 refused-requires-2 same-length-4 returns-4)
+    (tie.spec
+    sub-d
+    element-copy-out-if1
+    find-spot-requires
+    enum-known-at
+    write-line-requires
+    slice-write-buf
+    mul-line
+    add-line
+    add-breaks
+    add-indents
+    closed-requires
+    same-length
+    returns
+    enum-told
+    refused-requires
+    returns-2
+    find-spot-requires-2
+    enum-known-at-2
+    slice-write-buf-2
+    add-line-2
+    closed-requires-2
+    same-length-2
+    returns-3
+    enum-told-2
+    refused-requires-2
+    returns-4)

@@ -35,7 +35,7 @@ returns c =
     let test = c .before in
     let st = start (test .before) in
     let a = st .args in
-    rw (finish-unsound _ _ (whole st) _ (sym (test .before .is-sound .ensures (a .flags .now)) ∙ not-true _ (test .if1 .taken))) (refused-steps (a .progress) (a .flags .now) (a .commit) (a .buf .now) 11 (c .refused .ensures) refl)
+    rw (finish-unsound _ _ (whole st) _ (sym (test .before .is-sound .ensures (a .flags .now)) ∙ not-true _ (test .if1 .taken))) (refused-steps (a .progress) (a .flags .now) (a .buf .now) 11 (c .refused .ensures) refl)
 
 enum-told : tie.Need-enum-told
 enum-told c = search needs
@@ -50,7 +50,7 @@ returns-2 c =
     let el = told .before .before in
     let st = start (el .before) in
     let a = st .args in
-    rw (finish-sound _ _ (whole st) _ (is-sound el) (told .enum-told .given .1)) (refused-steps (a .progress) (a .flags .now) (a .commit) (a .buf .now) 20 (c .refused2 .ensures) refl)
+    rw (finish-sound _ _ (whole st) _ (is-sound el) (told .enum-told .given .1)) (refused-steps (a .progress) (a .flags .now) (a .buf .now) 20 (c .refused2 .ensures) refl)
 
 enum-told-2 : tie.Need-enum-told-2
 enum-told-2 c = search needs
@@ -65,7 +65,7 @@ returns-3 c =
     let el = told .before .before in
     let st = start (el .before) in
     let a = st .args in
-    rw (finish-sound _ _ (whole st) _ (is-sound el) (told .enum-told2 .given .1)) (refused-steps (a .progress) (a .flags .now) (a .commit) (a .buf .now) 20 (c .refused3 .ensures) refl)
+    rw (finish-sound _ _ (whole st) _ (is-sound el) (told .enum-told2 .given .1)) (refused-steps (a .progress) (a .flags .now) (a .buf .now) 20 (c .refused3 .ensures) refl)
 
 enum-told-3 : tie.Need-enum-told-3
 enum-told-3 c = search needs
@@ -101,7 +101,7 @@ returns-5 c =
     let el = told .before .before in
     let st = start (el .before) in
     let a = st .args in
-    rw (finish-sound _ _ (whole st) _ (is-sound el) (told .enum-told4 .given .1)) (refused-steps (a .progress) (a .flags .now) (a .commit) (a .buf .now) 19 (c .refused4 .ensures) refl)
+    rw (finish-sound _ _ (whole st) _ (is-sound el) (told .enum-told4 .given .1)) (refused-steps (a .progress) (a .flags .now) (a .buf .now) 19 (c .refused4 .ensures) refl)
 
 pub finish-step-spec : {M : Type 1} → statement M
 finish-step-spec =

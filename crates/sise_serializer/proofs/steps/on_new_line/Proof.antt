@@ -1,35 +1,49 @@
 -- Line break, indentations and token stand at the position, and the record has them counted; or they have no room and all is as it was.
 -- Assumes nothing.
-use Prim.Native.Nat.{_*_, _≤_}
+use Prim.Native.Nat.{_+_, _*_}
 use native.Mathlib.Omega.{arith}
+use mathlib.Core.Path.{_≡_, refl, sym, _∙_}
 use lib.ListN.{length}
 use borrow.Author.Needs.{needs}
-use Rattle.sise_serializer.specs.Serializer.{limit, Piece, style, newLine, laid, innerAs}
+use Rattle.sise_serializer.specs.Bytes.{repeat}
+use Rattle.sise_serializer.specs.Serializer.{Piece, style, newLine, newLineOf, laid, innerAs}
 use Rattle.sise_serializer.specs.Steps.{joined}
-use Rattle.sise_serializer.proofs.Spots.{indents-small}
+use Rattle.sise_serializer.specs.Parts.{tokenOf, spotOf}
+use Rattle.sise_serializer.proofs.Bytes.{layout-length, pasted-behind}
+use Rattle.sise_serializer.proofs.Spots.{found, spot-as}
 use Rattle.sise_serializer.proofs.Does.{placed-steps, full-steps}
 use Rattle.sise_serializer.proofs.steps.on_new_line.Statement.{statement}
 use Rattle.sise_serializer.proofs.steps.on_new_line.Tie as tie
 
 -- the function's entry, and what it writes
-abbrev start : tie.After-place → tie.Start
-start c = c .before .before .before .before .before .before
+abbrev start : tie.After-token-len → tie.Start
+start c = c .before .before .before .before .before
 
 abbrev piece : tie.Start → Piece
-piece c = let a = c .args in innerAs (style (a .line-break .now) (a .indentation .now)) (joined (a .progress) (a .flags .now)) (a .token .now) (a .is-list) newLine
+piece c = let a = c .args in innerAs (style (a .line-break .now) (a .indentation .now)) (joined (a .progress) (a .flags .now)) (tokenOf (a .is-list) (a .atom .now)) (a .is-list) newLine
 
--- what found room is few bytes
-few : (c : tie.After-at) → start (c .before .before .before .before) .args .progress .lists * length (start (c .before .before .before .before) .args .indentation .now) ≤ limit
-few c =
-    let pl = c .before .before .before .before in
-    let a = start pl .args in
-    indents-small (a .line-break .now) (a .progress .lists) (a .indentation .now) (pl .place .ensures) (c .at .given .1)
+-- the spot that was looked for is the piece's
+spot : (c : tie.After-find-spot) → let a = start (c .before) .args in c .find-spot .result ≡ spotOf (length (a .buf .now)) (a .progress .position) (length (a .line-break .now) + a .progress .lists * length (a .indentation .now)) (length (tokenOf (a .is-list) (a .atom .now)))
+spot c = spot-as _ _ (c .find-spot .ensures) refl (c .before .token-len .ensures)
 
-place-requires : tie.Need-place-requires
-place-requires c κs = search needs
+token-len-requires : tie.Need-token-len-requires
+token-len-requires c κs = search needs
+
+find-spot-requires : tie.Need-find-spot-requires
+find-spot-requires c κs = search needs
 
 enum-known-at : tie.Need-enum-known-at
 enum-known-at c = search needs
+
+write-line-requires : tie.Need-write-line-requires
+write-line-requires c κs =
+    let a = c .before .before .before .before .before .before .before .before .before .before .args in
+    omega (arith, found _ _ _ _ (sym (c .before .before .at .given .1) ∙ spot (c .before .before .before .before)) .in-room, layout-length (a .line-break .now) (a .progress .lists) (a .indentation .now))
+
+write-token-requires : tie.Need-write-token-requires
+write-token-requires c κs =
+    let h = found _ _ _ _ (sym (c .before .before .before .before .before .before .at .given .1) ∙ spot (c .before .before .before .before .before .before .before .before)) in
+    omega (arith, h .in-room, h .offset)
 
 sub-flags : tie.Need-sub-flags
 sub-flags c = search needs
@@ -38,16 +52,16 @@ element-write-flags : tie.Need-element-write-flags
 element-write-flags c = search needs
 
 mul-line : tie.Need-mul-line
-mul-line c = omega (arith, few (c .before))
+mul-line c = omega (arith, found _ _ _ _ (sym (c .before .before .before .before .before .before .before .before .before .at .given .1) ∙ spot (c .before .before .before .before .before .before .before .before .before .before .before)) .in-limit)
 
 add-line : tie.Need-add-line
-add-line c = omega (arith, few (c .before))
+add-line c = omega (arith, found _ _ _ _ (sym (c .before .before .before .before .before .before .before .before .before .at .given .1) ∙ spot (c .before .before .before .before .before .before .before .before .before .before .before)) .in-limit, c .before .before .before .before .before .before .before .before .before .before .before .before .token-len .ensures)
 
 add-breaks : tie.Need-add-breaks
 add-breaks c = search needs
 
 add-indents : tie.Need-add-indents
-add-indents c = search needs
+add-indents c = omega (arith, c .before .before .before .before .before .before .before .before .before .before .before .before .before .before .before .before .before .before .before .pre .0 .0 .steps, c .before .before .before .before .before .before .before .before .before .before .before .before .before .before .before .before .before .before .before .pre .0 .0 .depth)
 
 added-requires : tie.Need-added-requires
 added-requires c κs = search needs
@@ -58,10 +72,12 @@ same-length c = search needs
 returns : tie.Need-returns
 unfolding innerAs laid
 returns c =
-    let at = c .before .before .before .before .before in
-    let pl = at .before .before .before .before in
-    let a = start pl .args in
-    placed-steps (a .progress) (a .flags .now) (a .commit) (a .buf .now) (piece (start pl)) (pl .place .ensures) (at .at .given .1) (λ x. rw x at (c .added .ensures))
+    let a = c .before .before .before .before .before .before .before .before .before .before .before .before .before .before .before .before .before .before .before .before .before .args in
+    let size = layout-length (a .line-break .now) (a .progress .lists) (a .indentation .now) in
+    let t = c .before .before .before .before .before .before .before .before .before .before .before .before .before .at .given .1 in
+    let h = found _ _ _ _ (sym t ∙ spot (c .before .before .before .before .before .before .before .before .before .before .before .before .before .before .before)) in
+    placed-steps (a .progress) (a .flags .now) (a .buf .now) (piece (c .before .before .before .before .before .before .before .before .before .before .before .before .before .before .before .before .before .before .before .before .before)) (rw size (spot (c .before .before .before .before .before .before .before .before .before .before .before .before .before .before .before))) t (λ x. rw (x, c .before .before .before .before .before .before .before .before .before .before .before .before .before .before .before .before .token-len .ensures) at (c .added .ensures))
+    (pasted-behind (a .buf .now) (a .progress .position) (newLineOf (style (a .line-break .now) (a .indentation .now)) (a .progress .lists)) (tokenOf (a .is-list) (a .atom .now)) (c .before .before .before .before .before .before .before .before .before .before .write-line .ensures .1) (h .offset ∙ rw size) (c .before .before .before .before .before .before .write-token .ensures) (omega (arith, size, h .in-room)))
 
 enum-told : tie.Need-enum-told
 enum-told c = search needs
@@ -69,17 +85,31 @@ enum-told c = search needs
 refused-requires : tie.Need-refused-requires
 refused-requires c κs = search needs
 
-same-length-2 : tie.Need-same-length-2
-same-length-2 c = search needs
-
 returns-2 : tie.Need-returns-2
 unfolding innerAs laid
 returns-2 c =
-    let pl = c .before .before .before .before .before in
-    let a = start pl .args in
-    full-steps (a .progress) (a .flags .now) (a .commit) (a .buf .now) (piece (start pl)) (pl .place .ensures) (c .refused .ensures) (c .before .enum-told .given .1)
+    let a = c .before .before .before .before .before .before .before .before .before .args in
+    let size = layout-length (a .line-break .now) (a .progress .lists) (a .indentation .now) in
+    full-steps (a .progress) (a .flags .now) (a .buf .now) (piece (c .before .before .before .before .before .before .before .before .before)) (rw size (spot (c .before .before .before))) (c .refused .ensures) (c .before .enum-told .given .1)
 
 pub on-new-line-spec : {M : Type 1} → statement M
 on-new-line-spec =
     tie.close
-    (tie.spec place-requires enum-known-at sub-flags element-write-flags mul-line add-line add-breaks add-indents added-requires same-length returns enum-told refused-requires same-length-2 returns-2)
+    (tie.spec
+    token-len-requires
+    find-spot-requires
+    enum-known-at
+    write-line-requires
+    write-token-requires
+    sub-flags
+    element-write-flags
+    mul-line
+    add-line
+    add-breaks
+    add-indents
+    added-requires
+    same-length
+    returns
+    enum-told
+    refused-requires
+    returns-2)

@@ -3,6 +3,7 @@
 use lib.ListN.{length}
 use borrow.Author.Needs.{needs}
 use Rattle.sise_serializer.specs.Serializer.{style, beginList}
+use Rattle.sise_serializer.specs.Steps.{putItem}
 use Rattle.sise_serializer.specs.declared.serializer.Serializer.{Serializer}
 use Rattle.sise_serializer.proofs.Does.{step-does}
 use Rattle.sise_serializer.proofs.serializer.Serializer.begin_list.Statement.{statement}
@@ -11,8 +12,11 @@ use Rattle.sise_serializer.proofs.serializer.Serializer.begin_list.Tie 
 progress-requires : tie.Need-progress-requires
 progress-requires c κs = search needs
 
-begin-step-requires : tie.Need-begin-step-requires
-begin-step-requires c κs = search needs
+slice-aggregate-item-step : tie.Need-slice-aggregate-item-step
+slice-aggregate-item-step c = search needs
+
+item-step-requires : tie.Need-item-step-requires
+item-step-requires c κs = search needs
 
 pack-requires : tie.Need-pack-requires
 pack-requires c κs = search needs
@@ -21,12 +25,18 @@ same-length : tie.Need-same-length
 same-length c = search needs
 
 returns : tie.Need-returns
+unfolding putItem
 returns c =
-    let st = c .before .before .before in
-    let pr = st .before .before .before in
-    let a = pr .before .before .before .before .before .args in
-    step-does (λ (w : Serializer). beginList (style (a .line-break .now) (a .indentation .now)) (length (a .buf .now)) w (a .break-line-at)) (pr .progress .ensures) (st .begin-step .ensures) (c .pack .ensures .0) (c .pack .ensures .1)
+    let a = c .before .before .before .before .before .before .before .before .before .before .before .before .args in
+    step-does (λ (w : Serializer). beginList (style (a .line-break .now) (a .indentation .now)) (length (a .buf .now)) w (a .break-line-at)) (c .before .before .before .before .before .before .before .progress .ensures) (c .before .before .before .item-step .ensures) (c .pack .ensures .0) (c .pack .ensures .1)
 
 pub begin-list-spec : {M : Type 1} → statement M
 begin-list-spec =
-    tie.close (tie.spec progress-requires begin-step-requires pack-requires same-length returns)
+    tie.close
+    (tie.spec
+    progress-requires
+    slice-aggregate-item-step
+    item-step-requires
+    pack-requires
+    same-length
+    returns)

@@ -3,6 +3,7 @@
 use lib.ListN.{length}
 use borrow.Author.Needs.{needs}
 use Rattle.sise_serializer.specs.Serializer.{style, putAtom}
+use Rattle.sise_serializer.specs.Steps.{putItem}
 use Rattle.sise_serializer.specs.declared.serializer.Serializer.{Serializer}
 use Rattle.sise_serializer.proofs.Does.{step-does}
 use Rattle.sise_serializer.proofs.serializer.Serializer.put_atom.Statement.{statement}
@@ -11,8 +12,8 @@ use Rattle.sise_serializer.proofs.serializer.Serializer.put_atom.Tie as
 progress-requires : tie.Need-progress-requires
 progress-requires c κs = search needs
 
-put-atom-step-requires : tie.Need-put-atom-step-requires
-put-atom-step-requires c κs = search needs
+item-step-requires : tie.Need-item-step-requires
+item-step-requires c κs = search needs
 
 pack-requires : tie.Need-pack-requires
 pack-requires c κs = search needs
@@ -21,12 +22,11 @@ same-length : tie.Need-same-length
 same-length c = search needs
 
 returns : tie.Need-returns
+unfolding putItem
 returns c =
-    let st = c .before .before .before in
-    let pr = st .before .before .before in
-    let a = pr .before .before .before .before .before .before .args in
-    step-does (λ (w : Serializer). putAtom (style (a .line-break .now) (a .indentation .now)) (length (a .buf .now)) w (a .atom .now) (a .break-line-at)) (pr .progress .ensures) (st .put-atom-step .ensures) (c .pack .ensures .0) (c .pack .ensures .1)
+    let a = c .before .before .before .before .before .before .before .before .before .before .before .before .args in
+    step-does (λ (w : Serializer). putAtom (style (a .line-break .now) (a .indentation .now)) (length (a .buf .now)) w (a .atom .now) (a .break-line-at)) (c .before .before .before .before .before .before .progress .ensures) (c .before .before .before .item-step .ensures) (c .pack .ensures .0) (c .pack .ensures .1)
 
 pub put-atom-spec : {M : Type 1} → statement M
 put-atom-spec =
-    tie.close (tie.spec progress-requires put-atom-step-requires pack-requires same-length returns)
+    tie.close (tie.spec progress-requires item-step-requires pack-requires same-length returns)
