@@ -1,7 +1,7 @@
 -- What is left of a list of calls while it runs: each call's words are taken from the front, and its answer's word is set at its index, so what running
 -- the rest leaves stays the same.
 -- Assumes nothing.
-use Prim.Native.Nat.{ℕ, suc, _+_, _-_, _^_, _≤_, _<_}
+use Prim.Native.Nat.{ℕ, zero, suc, _+_, _-_, _^_, _≤_, _<_}
 use native.Mathlib.Nat.{add-zero, zero-add}
 use native.Mathlib.Omega.{arith}
 use mathlib.Core.Path.{_≡_, refl, sym, ap, _∙_}
@@ -13,11 +13,12 @@ use lib.ListN.{length, getD, take, drop, set, length-drop, length-set}
 use lib.Seq.{take-nil, drop-cons, take-suc-set, drop-set-lt, append-snoc}
 use types.Run.{OneOf}
 use denote.Enum.Declared.{tagOf}
-use borrow.Author.Tests.{leb-true, leb-false, le-leb, lt-leb, eq-eqb, ne-eqb}
+use borrow.Author.Tests.{leb-true, leb-false, le-leb, lt-leb, eq-eqb, ne-eqb, eqb-true, eqb-false}
 use Rattle.sise_parser.specs.Reader.{partOf}
-use Rattle.sise_util.proofs.Ranges.{and-first, and-second}
+use Rattle.sise_util.proofs.Ranges.{split, and-first, and-second}
 use Rattle.sise_serializer.specs.Bytes.{pasted}
 use Rattle.sise_serializer.specs.Serializer.{Style, answerAs, numberOf, freshSerializer}
+use Rattle.sise_serializer.specs.Steps.{putItem}
 use Rattle.sise_serializer.specs.declared.serializer.Serializer.{Serializer}
 use Rattle.sise_serializer.specs.declared.serializer.Put.{Put}
 use Rattle.sise_serializer.specs.declared.serializer.Put.the-variants.{At, UnsoundRecord, InvalidAtom, NoListToEnd, WritingFinished, WritingNotFinished, TooDeep, NoRoom}
@@ -32,6 +33,11 @@ finish-by : (b : Bool) → cond b (finishCall false) (finishCall true) ≡ finis
 finish-by true = refl
 finish-by false = refl
 
+below-two : (n : ℕ) → n < 2 → (n ≡ 1 → ⊥) → n ≡ 0
+below-two zero h f = refl
+below-two (suc zero) h f = absurd (f refl)
+below-two (suc (suc n)) h f = absurd (omega arith)
+
 module _ (words atoms : List ℕ) (at : ℕ) where
   pub call-atom : getD words at 0 ≡ 0 → callAt words atoms at ≡ putAtomCall (partOf atoms (getD words (at + 1) 0) (getD words (at + 2) 0)) (getD words (at + 3) 0)
   unfolding callOf
@@ -40,6 +46,15 @@ module _ (words atoms : List ℕ) (at : ℕ) where
   pub call-begin : (getD words at 0 ≡ 0 → ⊥) → getD words at 0 ≡ 1 → callAt words atoms at ≡ beginListCall (getD words (at + 3) 0)
   unfolding callOf
   call-begin a e = rw (ne-eqb _ _ a, eq-eqb _ _ e)
+
+  -- an atom's call or a list's
+  pub call-item : (s : Style) (room : ℕ) (w : Serializer) → getD words at 0 < 2
+      → step s room w (callAt words atoms at) ≡ putItem s room w (partOf atoms (getD words (at + 1) 0) (getD words (at + 2) 0)) (eqb (getD words at 0) 1) (getD words (at + 3) 0)
+  unfolding step putItem
+  call-item s room w h =
+      split (eqb (getD words at 0) 1)
+      (λ e. let one = eqb-true _ _ e in rw (call-begin (λ z. absurd (omega arith)) one, e))
+      (λ e. rw (call-atom (below-two _ h (eqb-false _ _ e)), e))
 
   pub call-end : (getD words at 0 ≡ 0 → ⊥) → (getD words at 0 ≡ 1 → ⊥) → getD words at 0 ≡ 2 → callAt words atoms at ≡ endListCall
   unfolding callOf

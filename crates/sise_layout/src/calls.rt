@@ -6,11 +6,10 @@ use sise_serializer::Put;
 use sise_serializer::Serializer;
 use sise_serializer::Step;
 use sise_serializer::Wrote;
-use sise_serializer::begin_step;
 use sise_serializer::end_step;
 use sise_serializer::finish_step;
 use sise_serializer::fresh_progress;
-use sise_serializer::put_atom_step;
+use sise_serializer::item_step;
 ghost use mathlib.Core.Path.{_≡_};
 ghost use mathlib.Core.Bool.{true};
 ghost use Prim.Native.Nat.{_+_, _≤_};
@@ -59,48 +58,29 @@ fn run_call(
     buf: &mut [u8],
 ) -> Step
     requires { ⌜ at + 4 ≤ length (now words) ⌝ }
-    ensures { λ r. ⌜ Steps (step (style (now («line_break» .entry)) (now (indentation .entry))) (length (now (buf .entry))) (joined progress (now (flags .entry))) (callAt (now (words .entry)) (now (atoms .entry)) at)) (joined progress (now (flags .entry))) true (now (buf .entry)) r (now (flags .exit)) (now (buf .exit)) ⌝ }
+    ensures { λ r. ⌜ Steps (step (style (now («line_break» .entry)) (now (indentation .entry))) (length (now (buf .entry))) (joined progress (now (flags .entry))) (callAt (now (words .entry)) (now (atoms .entry)) at)) (joined progress (now (flags .entry))) (now (buf .entry)) r (now (flags .exit)) (now (buf .exit)) ⌝ }
 {
     let kind = words[at];
     let place = words[at + 1];
     let len = words[at + 2];
     let threshold = words[at + 3];
-    if kind == 0 {
+    if kind < 2 {
         let atom = atom_bytes(atoms, place as usize, len as usize);
-        return put_atom_step(
+        return item_step(
             progress,
             flags,
             line_break,
             indentation,
             buf,
             atom,
+            kind == 1,
             threshold,
-            true,
-        );
-    }
-    if kind == 1 {
-        return begin_step(
-            progress,
-            flags,
-            line_break,
-            indentation,
-            buf,
-            threshold,
-            true,
         );
     }
     if kind == 2 {
-        return end_step(progress, flags, line_break, indentation, buf, true);
+        return end_step(progress, flags, line_break, indentation, buf);
     }
-    finish_step(
-        progress,
-        flags,
-        line_break,
-        indentation,
-        buf,
-        kind != 3,
-        true,
-    )
+    finish_step(progress, flags, line_break, indentation, buf, kind != 3)
 }
 
 // Runs the calls that the words mean, each with the record that the last one left, and writes the word of each answer at the call's index. Stops at a

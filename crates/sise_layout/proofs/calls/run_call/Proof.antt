@@ -1,14 +1,11 @@
 -- Each branch is the call that its kind means, on the bytes that the words name.
 -- Assumes nothing.
+use native.Mathlib.Omega.{arith}
 use borrow.Author.Needs.{needs}
 use Rattle.sise_layout.specs.Calls.{step}
-use Rattle.sise_layout.proofs.Running.{call-atom, call-begin, call-end, call-finish}
+use Rattle.sise_layout.proofs.Running.{call-item, call-end, call-finish}
 use Rattle.sise_layout.proofs.calls.run_call.Statement.{statement}
 use Rattle.sise_layout.proofs.calls.run_call.Tie as tie
-
--- the function's entry
-abbrev start : tie.After-shared-slice-known8 → tie.Start
-start c = c .before .before .before .before .before .before .before .before .before
 
 mul-kind : tie.Need-mul-kind
 mul-kind c = search needs
@@ -46,27 +43,19 @@ shared-slice-read-threshold c = search needs
 atom-bytes-requires : tie.Need-atom-bytes-requires
 atom-bytes-requires c κs = search needs
 
-put-atom-step-requires : tie.Need-put-atom-step-requires
-put-atom-step-requires c κs = search needs
-
-begin-step-requires : tie.Need-begin-step-requires
-begin-step-requires c κs = search needs
-
-end-step-requires : tie.Need-end-step-requires
-end-step-requires c κs = search needs
-
-finish-step-requires : tie.Need-finish-step-requires
-finish-step-requires c κs = search needs
+item-step-requires : tie.Need-item-step-requires
+item-step-requires c κs = search needs
 
 same-length : tie.Need-same-length
 same-length c = search needs
 
 returns : tie.Need-returns
-unfolding step
 returns c =
-    let test = c .before .before .before .before .before .before in
-    let a = start (test .before) .args in
-    rw (call-atom (a .words .now) (a .atoms .now) (a .at) (test .if1 .taken), ← c .before .before .before .before .before .atom-bytes .ensures) (c .before .before .put-atom-step .ensures)
+    let a = c .before .before .before .before .before .before .before .before .before .before .before .before .before .before .before .before .args in
+    rw (call-item (a .words .now) (a .atoms .now) (a .at) _ _ _ (c .before .before .before .before .before .before .if1 .taken), ← c .before .before .before .before .before .atom-bytes .ensures) (c .before .before .item-step .ensures)
+
+end-step-requires : tie.Need-end-step-requires
+end-step-requires c κs = search needs
 
 same-length-2 : tie.Need-same-length-2
 same-length-2 c = search needs
@@ -74,10 +63,12 @@ same-length-2 c = search needs
 returns-2 : tie.Need-returns-2
 unfolding step
 returns-2 c =
-    let test2 = c .before .before .before .before .before in
-    let test1 = test2 .before in
-    let a = start (test1 .before) .args in
-    rw (call-begin (a .words .now) (a .atoms .now) (a .at) (test1 .if1 .left) (test2 .if2 .taken)) (c .before .before .begin-step .ensures)
+    let a = c .before .before .before .before .before .before .before .before .before .before .before .before .before .before .before .before .args in
+    let past = c .before .before .before .before .before .before .if1 .left in
+    rw (call-end (a .words .now) (a .atoms .now) (a .at) (λ z. absurd (omega arith)) (λ z. absurd (omega arith)) (c .before .before .before .before .before .if2 .taken)) (c .before .before .end-step .ensures)
+
+finish-step-requires : tie.Need-finish-step-requires
+finish-step-requires c κs = search needs
 
 same-length-3 : tie.Need-same-length-3
 same-length-3 c = search needs
@@ -85,25 +76,32 @@ same-length-3 c = search needs
 returns-3 : tie.Need-returns-3
 unfolding step
 returns-3 c =
-    let test3 = c .before .before .before .before .before in
-    let test2 = test3 .before in
-    let test1 = test2 .before in
-    let a = start (test1 .before) .args in
-    rw (call-end (a .words .now) (a .atoms .now) (a .at) (test1 .if1 .left) (test2 .if2 .left) (test3 .if3 .taken)) (c .before .before .end-step .ensures)
-
-same-length-4 : tie.Need-same-length-4
-same-length-4 c = search needs
-
-returns-4 : tie.Need-returns-4
-unfolding step
-returns-4 c =
-    let test3 = c .before .before .before .before .before in
-    let test2 = test3 .before in
-    let test1 = test2 .before in
-    let a = start (test1 .before) .args in
-    rw (call-finish (a .words .now) (a .atoms .now) (a .at) (test1 .if1 .left) (test2 .if2 .left) (test3 .if3 .left)) (c .before .before .finish-step .ensures)
+    let a = c .before .before .before .before .before .before .before .before .before .before .before .before .before .before .before .before .args in
+    let past = c .before .before .before .before .before .before .if1 .left in
+    rw (call-finish (a .words .now) (a .atoms .now) (a .at) (λ z. absurd (omega arith)) (λ z. absurd (omega arith)) (c .before .before .before .before .before .if2 .left)) (c .before .before .finish-step .ensures)
 
 pub run-call-spec : {M : Type 1} → statement M
 run-call-spec =
     tie.close
-    (tie.spec mul-kind shared-slice-read-kind add-place mul-place shared-slice-read-place add-len mul-len shared-slice-read-len add-threshold mul-threshold shared-slice-read-threshold atom-bytes-requires put-atom-step-requires same-length returns begin-step-requires same-length-2 returns-2 end-step-requires same-length-3 returns-3 finish-step-requires same-length-4 returns-4)
+    (tie.spec
+    mul-kind
+    shared-slice-read-kind
+    add-place
+    mul-place
+    shared-slice-read-place
+    add-len
+    mul-len
+    shared-slice-read-len
+    add-threshold
+    mul-threshold
+    shared-slice-read-threshold
+    atom-bytes-requires
+    item-step-requires
+    same-length
+    returns
+    end-step-requires
+    same-length-2
+    returns-2
+    finish-step-requires
+    same-length-3
+    returns-3)
