@@ -7,8 +7,8 @@ use sise_parser::Reader;
 use sise_serializer::Serializer;
 use sise_tree::index_path;
 use sise_tree::parse_tree;
-use sise_tree::serialize_house;
-use sise_tree::serialize_tree;
+use sise_tree_writer::serialize_house;
+use sise_tree_writer::serialize_tree;
 
 // The table's words, four a line.
 fn put_words(out: &mut [u8], from: usize, table: &[u32]) -> usize {

@@ -26,13 +26,13 @@ use sise_parser::Reader;
 use sise_serializer::Serializer;
 use sise_tree::Indexed;
 use sise_tree::ParsedTree;
-use sise_tree::PutTree;
 use sise_tree::TreeRead;
-use sise_tree::TreeWrote;
 use sise_tree::index_path;
 use sise_tree::parse_tree;
-use sise_tree::serialize_house;
-use sise_tree::serialize_tree;
+use sise_tree_writer::PutTree;
+use sise_tree_writer::TreeWrote;
+use sise_tree_writer::serialize_house;
+use sise_tree_writer::serialize_tree;
 
 // The table that a case lends a part of.
 fn fresh_words() -> [u32; 4096]

@@ -6,18 +6,19 @@ use mathlib.Core.List.{List, [], _∷_}
 use types.Run.{OneOf}
 use denote.Enum.Declared.{tagOf}
 use Rattle.sise_layout.proofs.Running.{no-zero}
-use Rattle.sise_tree.specs.Answers.{Answer, answered, parsedAs, indexedAs, putAs, numberOf, placeOf, codeOf}
+use Rattle.sise_tree.specs.Answers.{Answer, answered, parsedAs, indexedAs, numberOf, placeOf, codeOf}
+use Rattle.sise_tree_writer.specs.Answers.{putAs}
 use Rattle.sise_tree.specs.declared.parse.ParsedTree.{ParsedTree}
 use Rattle.sise_tree.specs.declared.parse.ParsedTree.the-variants as parsed
 use Rattle.sise_tree.proofs.parse.ParsedTree as parsings
 use Rattle.sise_tree.specs.declared.tree.Indexed.{Indexed}
 use Rattle.sise_tree.specs.declared.tree.Indexed.the-variants as indexed
 use Rattle.sise_tree.proofs.tree.Indexed as indexings
-use Rattle.sise_tree.specs.declared.serialize.PutTree.{PutTree}
-use Rattle.sise_tree.specs.declared.serialize.PutTree.the-variants as put
-use Rattle.sise_tree.proofs.serialize.PutTree as puts
-use Rattle.sise_tree.specs.declared.serialize.TreeWrote.{TreeWrote}
-use Rattle.sise_tree.specs.SerializeTree.{writeTree, DoesWrite, DoesMeasure}
+use Rattle.sise_tree_writer.specs.declared.serialize.PutTree.{PutTree}
+use Rattle.sise_tree_writer.specs.declared.serialize.PutTree.the-variants as put
+use Rattle.sise_tree_writer.proofs.serialize.PutTree as puts
+use Rattle.sise_tree_writer.specs.declared.serialize.TreeWrote.{TreeWrote}
+use Rattle.sise_tree_writer.specs.SerializeTree.{writeTree, DoesWrite, DoesMeasure}
 use Rattle.sise_tree.specs.Tree.{Node}
 use Rattle.sise_layout.specs.Calls.{Call}
 use Rattle.sise_serializer.specs.Serializer.{Style, freshSerializer}

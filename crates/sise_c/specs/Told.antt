@@ -5,7 +5,7 @@ use mathlib.Core.Path.{_≡_}
 use mathlib.Core.Bool.{Bool, cond}
 use mathlib.Core.List.{List, [], _∷_}
 use Rattle.sise_tree.specs.Answers.{Answer, answered, refused, numberOf}
-use Rattle.sise_tree.specs.SerializeTree.{Writes}
+use Rattle.sise_tree_writer.specs.SerializeTree.{Writes}
 
 -- 17: "`check_atom` says no"
 abbrev pub checked : Bool → ℕ

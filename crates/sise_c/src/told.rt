@@ -2,9 +2,10 @@
 use sise_parser::ParseError;
 use sise_tree::Indexed;
 use sise_tree::ParsedTree;
-use sise_tree::PutTree;
+use sise_tree_writer::PutTree;
 ghost use Rattle.sise_parser.specs.Refusals.{refusalOf};
-ghost use Rattle.sise_tree.specs.Answers.{refused, indexedAs, parsedAs, putAs};
+ghost use Rattle.sise_tree.specs.Answers.{refused, indexedAs, parsedAs};
+ghost use Rattle.sise_tree_writer.specs.Answers.{putAs};
 ghost use Rattle.sise_c.specs.Told.{Tells, sizeOr};
 
 // What a call tells beside its result.

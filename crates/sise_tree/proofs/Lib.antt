@@ -3,7 +3,6 @@ pub mod DecisionLaws
 pub mod Rows
 pub mod LocalLaws
 pub mod LocalSteps
-pub mod ReadAgain
 pub mod PathLaws
 pub mod ReadSteps
 pub mod ParseSteps
@@ -16,16 +15,3 @@ pub mod ParseLaws
 pub mod FillingLoop
 pub mod FillingPlain
 pub mod ParseCases
-pub mod Walk
-pub mod WalkAtoms
-pub mod CallLaws
-pub mod WalkDepth
-pub mod WalkCalls
-pub mod WalkDoes
-pub mod Measuring
-pub mod Sizes
-pub mod SoundSteps
-pub mod MeasuredTurns
-pub mod MeasuredWalk
-pub mod Drawing
-pub mod DrawWalk

@@ -6,8 +6,6 @@ use Rattle.sise_tree.specs.declared.tree.Indexed.{Indexed}
 use Rattle.sise_tree.specs.declared.tree.Indexed.the-variants.{Node, TextTooLong, NotATree, NoSuchNode}
 use Rattle.sise_tree.specs.declared.parse.ParsedTree.{ParsedTree}
 use Rattle.sise_tree.specs.declared.parse.ParsedTree.the-variants.{Nodes, Refused, UnexpectedListEnd, TableFull}
-use Rattle.sise_tree.specs.declared.serialize.PutTree.{PutTree}
-use Rattle.sise_tree.specs.declared.serialize.PutTree.the-variants.{At, UnsoundRecord, InvalidAtom, WritingFinished, TooDeep, NoRoom}
 
 pub data Answer : Type 0 where
   -- parse_tree: the number of nodes; serialize_tree: the first item's offset; index_path: the node's index
@@ -31,16 +29,6 @@ parsedAs (Refused e) = refused (refusalOf e)
 parsedAs (UnexpectedListEnd p) = refused (refusal 12 p 0)
 parsedAs ParsedTree.TextTooLong = refusedWith 13
 parsedAs TableFull = refusedWith 14
-
-abbrev pub putAs : PutTree → Answer
-putAs (At o) = answered o
-putAs PutTree.TextTooLong = refusedWith 13
-putAs UnsoundRecord = refusedWith 11
-putAs PutTree.NotATree = refusedWith 15
-putAs InvalidAtom = refusedWith 17
-putAs WritingFinished = refusedWith 19
-putAs TooDeep = refusedWith 21
-putAs NoRoom = refusedWith 22
 
 -- a refusal's number, place and code point, 0 where there is none
 abbrev pub numberOf : Answer → ℕ

@@ -4,15 +4,8 @@ pub mod Answers
 pub mod ParseTree
 pub mod ParseText
 pub mod IndexPath
-pub mod SerializeTree
 pub mod Parts
 pub mod Descent
-pub mod Alike
-pub mod Rows
-pub mod Writing
-pub mod Measuring
-pub mod Drawing
 pub mod TableExamples
 pub mod Filling
 pub mod ParseExamples
-pub mod WriteExamples

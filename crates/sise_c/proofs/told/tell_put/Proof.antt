@@ -2,8 +2,8 @@
 -- Assumes nothing.
 use mathlib.Core.Path.{refl, ap}
 use borrow.Author.Needs.{needs}
-use Rattle.sise_tree.specs.Answers.{putAs}
-use Rattle.sise_tree.specs.declared.serialize.PutTree.{PutTree}
+use Rattle.sise_tree_writer.specs.Answers.{putAs}
+use Rattle.sise_tree_writer.specs.declared.serialize.PutTree.{PutTree}
 use Rattle.sise_c.specs.Told.{sizeOr}
 use Rattle.sise_c.proofs.Telling.{tells-by, tells-answered, put-refusal}
 use Rattle.sise_c.proofs.told.tell_put.Statement.{statement}

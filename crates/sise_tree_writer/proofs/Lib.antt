@@ -1,0 +1,14 @@
+pub mod ReadAgain
+pub mod Walk
+pub mod WalkAtoms
+pub mod CallLaws
+pub mod WalkDepth
+pub mod WalkCalls
+pub mod WalkDoes
+pub mod Measuring
+pub mod Sizes
+pub mod SoundSteps
+pub mod MeasuredTurns
+pub mod MeasuredWalk
+pub mod Drawing
+pub mod DrawWalk

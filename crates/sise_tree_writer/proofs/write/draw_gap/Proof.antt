@@ -1,0 +1,61 @@
+-- By the tests of the code; the indentations have room, so their number of bytes is small.
+-- Assumes nothing.
+use native.Mathlib.Nat.{add-zero}
+use native.Mathlib.Omega.{arith}
+use mathlib.Core.Path.{sym}
+use borrow.Author.Needs.{needs}
+use Rattle.sise_serializer.proofs.Bytes.{pasted-none, layout-length}
+use Rattle.sise_tree_writer.proofs.Drawing.{pasted-one}
+use Rattle.sise_tree_writer.proofs.write.draw_gap.Statement.{statement}
+use Rattle.sise_tree_writer.proofs.write.draw_gap.Tie as tie
+
+draw-line-requires : tie.Need-draw-line-requires
+draw-line-requires c κs = let fit = rw (c .before .if1 .taken) at (c .before .before .before .before .before .pre .0) in omega arith
+
+mul-t14 : tie.Need-mul-t14
+mul-t14 c =
+    let start = c .before .before .before .before .before .before .before .before in
+    let a = start .args in
+    let fit = rw (c .before .before .before .before .if1 .taken) at (start .pre .0) in
+    let size = layout-length (a .line-break .now) (a .lists) (a .indentation .now) in
+    search needs
+
+same-length : tie.Need-same-length
+same-length c = search needs
+
+returns : tie.Need-returns
+returns c =
+    let drawn = c .before .before in
+    let k = drawn .before .before .if1 .taken in
+    (rw (k, drawn .draw-line .ensures .0), rw (k, drawn .draw-line .ensures .1))
+
+returns-2 : tie.Need-returns-2
+returns-2 c =
+    let a = c .before .before .before .before .before .args in
+    (rw (c .before .if1 .left, c .if2 .taken, add-zero (a .position)), rw (c .before .if1 .left, c .if2 .taken) (sym (pasted-none (a .buf .now) (a .position))))
+
+slice-write-buf : tie.Need-slice-write-buf
+slice-write-buf c =
+    let fit = rw (c .before .if1 .left, c .if2 .left) at (c .before .before .before .before .before .pre .0) in
+    omega arith
+
+add-t16 : tie.Need-add-t16
+add-t16 c = search needs
+
+add-t17 : tie.Need-add-t17
+add-t17 c = search needs
+
+same-length-2 : tie.Need-same-length-2
+same-length-2 c = search needs
+
+returns-3 : tie.Need-returns-3
+returns-3 c =
+    let start = c .before .before .before .before .before in
+    let a = start .args in
+    let fit = rw (c .before .if1 .left, c .if2 .left) at (start .pre .0) in
+    (rw (c .before .if1 .left, c .if2 .left), rw (c .before .if1 .left, c .if2 .left) (pasted-one (a .buf .now) (a .position) 32 (omega arith)))
+
+pub draw-gap-spec : {M : Type 1} → statement M
+draw-gap-spec =
+    tie.close
+    (tie.spec draw-line-requires mul-t14 same-length returns returns-2 slice-write-buf add-t16 add-t17 same-length-2 returns-3)

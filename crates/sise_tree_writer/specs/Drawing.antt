@@ -1,0 +1,109 @@
+-- What a walk over a tree whose calls fit draws at each turn: the pieces of the writer's calls (document 01, "serializer.rs: the writer"), by a pen that
+-- keeps no phase and no counts.
+-- Assumes nothing.
+use Prim.Native.Nat.{ℕ, _+_, _-_, _*_, _≤_, _<_}
+use mathlib.Core.Path.{_≡_}
+use mathlib.Core.Bool.{Bool, true, false, _||_, cond, not}
+use mathlib.Core.List.{List, [], _∷_, _++_}
+use lib.Dec.{ltb, eqb}
+use lib.ListN.{length, getD, set}
+use Rattle.sise_parser.specs.Reader.{partOf}
+use Rattle.sise_serializer.specs.Bytes.{pasted}
+use Rattle.sise_serializer.specs.Serializer.{Style, limit, deepest, newLineOf, phaseAfter, flagsAfter}
+use Rattle.sise_serializer.specs.declared.serializer.Serializer.{Serializer}
+use Rattle.sise_tree.specs.Tree.{kind, first, second}
+use Rattle.sise_tree_writer.specs.declared.write.Pen.{Pen}
+
+-- the record of a pen, with its flags and three counts. Behind the first item the open lists tell the phase
+abbrev pub penned : Pen → List Bool → ℕ → ℕ → ℕ → Serializer
+penned p flags spaces breaks indents = record {
+  position = p .position;
+  phase = phaseAfter (p .lists);
+  lists = p .lists;
+  «line_broken» = flags;
+  «list_beginning» = p .«list_beginning»;
+  «line_len» = p .«line_len»;
+  spaces = spaces;
+  breaks = breaks;
+  indents = indents;
+}
+
+-- the lists around a turn's token: a `)` stands outside the list that it closes
+abbrev pub around : ℕ → Bool → ℕ
+around lists closes = cond closes (lists - 1) lists
+
+-- a turn's token is a `(`
+abbrev pub opensAt : List ℕ → ℕ → Bool → Bool
+opensAt words i closes = cond closes false (eqb (kind words i) 0)
+
+-- the threshold of a turn, a if not a list's; a `)` has none
+abbrev pub thresholdAt : List ℕ → ℕ → Bool → ℕ → ℕ → ℕ
+thresholdAt words i closes a t = cond (opensAt words i closes) t a
+
+-- a turn's token
+abbrev pub tokenAt : List ℕ → List ℕ → ℕ → Bool → List ℕ
+tokenAt text words i closes = cond closes (41 ∷ []) (cond (eqb (kind words i) 0) (40 ∷ []) (partOf text (first words i) (second words i)))
+
+-- the token goes on a new line, with n lists around it: "`)`: if the innermost list is broken", all else "if line length < threshold" not
+abbrev pub breaksAt : List Bool → ℕ → ℕ → ℕ → Bool → Bool
+breaksAt flags line n t closes = cond closes (getD flags n false) (not (ltb line t))
+
+-- the flags then
+abbrev pub flagsLaid : List Bool → ℕ → ℕ → ℕ → Bool → List Bool
+flagsLaid flags line n t closes = cond closes (flagsAfter flags n (getD flags n false)) (cond (ltb line t) flags (set flags (n - 1) true))
+
+-- what stands before the token, and the line's length behind it: a new line, or a space unless the token joins what is before
+abbrev pub leadOf : Style → ℕ → Bool → Bool → List ℕ
+leadOf s n breaks joins = cond breaks (newLineOf s n) (cond joins [] (32 ∷ []))
+
+abbrev pub lineOf : Style → ℕ → ℕ → Bool → Bool → ℕ
+lineOf s line n breaks joins = cond breaks (n * length (s .indentation)) (cond joins line (line + 1))
+
+-- the pen behind the token, and the flags
+abbrev pub penAt : ℕ → ℕ → ℕ → List ℕ → List ℕ → ℕ → Bool → Pen
+penAt position line n text words i closes = record {
+  position = position + length (tokenAt text words i closes);
+  «line_len» = line + length (tokenAt text words i closes);
+  lists = cond closes n (cond (eqb (kind words i) 0) (n + 1) n);
+  «list_beginning» = opensAt words i closes;
+}
+
+abbrev pub flagsAt : List Bool → ℕ → List ℕ → ℕ → Bool → List Bool
+flagsAt flags n words i closes = cond closes flags (cond (eqb (kind words i) 0) (set flags n false) flags)
+
+-- a turn: its lead
+unfoldable pub leadAt : Style → Pen → List Bool → List ℕ → ℕ → Bool → ℕ → ℕ → List ℕ
+leadAt s p flags words i closes a t =
+    let n = around (p .lists) closes in
+    leadOf s n (breaksAt flags (p .«line_len») n (thresholdAt words i closes a t) closes) (closes || p .«list_beginning»)
+
+-- its pen
+unfoldable pub turnPen : Style → Pen → List Bool → List ℕ → List ℕ → ℕ → Bool → ℕ → ℕ → Pen
+turnPen s p flags text words i closes a t =
+    let n = around (p .lists) closes in
+    penAt (p .position + length (leadAt s p flags words i closes a t))
+    (lineOf s (p .«line_len») n (breaksAt flags (p .«line_len») n (thresholdAt words i closes a t) closes) (closes || p .«list_beginning»))
+    n text words i closes
+
+-- its flags
+unfoldable pub turnFlags : Pen → List Bool → List ℕ → ℕ → Bool → ℕ → ℕ → List Bool
+turnFlags p flags words i closes a t =
+    let n = around (p .lists) closes in
+    flagsAt (flagsLaid flags (p .«line_len») n (thresholdAt words i closes a t) closes) n words i closes
+
+-- a turn that fits
+pub record Drawable (s : Style) (p : Pen) (flags : List Bool) (text words : List ℕ) (i : ℕ) (closes : Bool) (a t room : ℕ) : Type 0 where
+  pub fits : p .position + length (leadAt s p flags words i closes a t) + length (tokenAt text words i closes) ≤ room
+  pub small : p .position + length (leadAt s p flags words i closes a t) + length (tokenAt text words i closes) ≤ limit
+  pub line : p .«line_len» ≤ p .position
+  pub some : 0 < p .lists
+  pub few : p .lists ≤ deepest
+  pub there : closes ≡ false → 4 * (i + 1) ≤ length words
+  pub deeper : opensAt words i closes ≡ true → p .lists < deepest
+
+-- what a turn promises, that began with the pen p and the buffer `before` and ended with the pen r, the flags `flags` and the buffer `now`
+pub record Drawn (s : Style) (p : Pen) (flags : List Bool) (text words : List ℕ) (i : ℕ) (closes : Bool) (a t : ℕ) (before : List ℕ)
+    (r : Pen) (laid : List Bool) (now : List ℕ) : Type 0 where
+  pub pen : r ≡ turnPen s p flags text words i closes a t
+  pub flagged : laid ≡ turnFlags p flags words i closes a t
+  pub buffer : now ≡ pasted before (p .position) (leadAt s p flags words i closes a t ++ tokenAt text words i closes)

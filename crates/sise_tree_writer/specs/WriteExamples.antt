@@ -1,0 +1,77 @@
+-- Document 01's worked table written at both ends of the thresholds, and a tree call's refusals in their order, by computation.
+-- Assumes nothing.
+use Prim.Native.Nat.{ℕ}
+use mathlib.Core.Path.{_≡_, refl}
+use mathlib.Core.Bool.{true, false}
+use mathlib.Core.List.{List, [], _∷_}
+use lib.ListN.{take, replicate}
+use Rattle.sise_util.specs.Chars.{within, oneOf, isAtomChr, marks}
+use Rattle.sise_util.specs.Classes.{classOf}
+use Rattle.sise_util.specs.Atom.{isAtom, outside, inside, escaped, isAtomPrefix}
+use Rattle.sise_parser.specs.Reader.{partOf}
+use Rattle.sise_serializer.specs.Bytes.{pasted}
+use Rattle.sise_serializer.specs.Serializer.{deepest, freshSerializer, isSound, place, firstAtom, firstList, laid, innerAs, inner, phaseAfter, flagsAfter, closeAs, close, last, putIn, putAtom, beginIn, beginList, endIn, endList, finishIn, finishWriting}
+use Rattle.sise_serializer.specs.declared.serializer.Phase.the-variants.{Writing}
+use Rattle.sise_serializer.specs.declared.serializer.Serializer.{Serializer}
+use Rattle.sise_layout.specs.Calls.{largest, step, run}
+use Rattle.sise_tree.specs.Tree.{Node, atom, list, empty, _then_, size, sizes, children, depth, depths, table, tables}
+use Rattle.sise_tree.specs.Decision.{guard, bind, row, ahead, only, decide}
+use Rattle.sise_tree.specs.TableExamples.{text, worked as tree}
+use Rattle.sise_tree.specs.Answers.{Answer, answered, refusedWith}
+use Rattle.sise_tree_writer.specs.SerializeTree.{nodeCalls, rowCalls, atomsHold, atomsHoldAll, fits, Writes, written, writeNode, writeTree, serializeTree, houseStyle, houseCalls, houseTree}
+
+-- a buffer that was used before
+abbrev used : ℕ → List ℕ
+used n = replicate n 255
+
+-- a record inside 200 lists
+unfoldable full : Serializer
+full = record {
+  position = 200;
+  phase = Writing;
+  lists = deepest;
+  «line_broken» = replicate deepest false;
+  «list_beginning» = true;
+  «line_len» = 200;
+  spaces = 0;
+  breaks = 0;
+  indents = 0;
+}
+
+-- what stands in the buffer up to the position, and the answer
+record Shown : Type 0 where
+  text : List ℕ
+  answer : Answer
+
+unfoldable shown : Writes → Shown
+shown w = record { text = take (w .serializer .position) (w .buffer); answer = w .answer }
+
+record Written : Type 0 where
+  -- at the largest threshold the text is the one that it was read from
+  unbroken : shown (serializeTree houseStyle (used 20) freshSerializer text (table tree) largest) ≡ record { text = text; answer = answered 0 }
+  -- `(z⏎  (+1⏎    "a b"⏎  )⏎  ~⏎)⏎`: 29 bytes
+  inHouse : shown (houseTree (used 29) text (table tree)) ≡ record {
+    text =
+        40 ∷ 122 ∷ 10 ∷ 32 ∷ 32 ∷ 40 ∷ 43 ∷ 49 ∷ 10 ∷ 32 ∷ 32 ∷ 32 ∷ 32 ∷ 34 ∷ 97 ∷ 32 ∷ 98 ∷ 34 ∷ 10 ∷ 32 ∷ 32 ∷ 41 ∷ 10 ∷ 32 ∷ 32 ∷ 126 ∷ 10 ∷ 41 ∷ 10 ∷ [];
+    answer = answered 0;
+  }
+  -- `a⏎`
+  atomInHouse : shown (houseTree (used 2) (97 ∷ []) (1 ∷ 0 ∷ 1 ∷ 1 ∷ [])) ≡ record { text = 97 ∷ 10 ∷ []; answer = answered 0 }
+
+written-so : Written
+unfolding shown serializeTree houseTree houseStyle houseCalls writeTree writeNode written fits nodeCalls rowCalls atomsHold atomsHoldAll isAtomPrefix partOf decide row ahead only guard bind size sizes children depth depths table tables run step pasted freshSerializer isSound place firstAtom firstList laid innerAs inner phaseAfter flagsAfter closeAs close last putIn putAtom beginIn beginList endIn endList finishIn finishWriting isAtom outside inside escaped classOf isAtomChr marks oneOf within
+written-so = record { unbroken = refl; inHouse = refl; atomInHouse = refl }
+
+record Refusals : Type 0 where
+  -- one byte short: nothing is written
+  oneByteShort : houseTree (used 28) text (table tree) ≡ record { serializer = freshSerializer; answer = refusedWith 22; buffer = used 28 }
+  -- "the zero-length atom isn't" one
+  zeroLength : shown (serializeTree houseStyle [] freshSerializer text (1 ∷ 1 ∷ 0 ∷ 1 ∷ []) 0) ≡ record { text = []; answer = refusedWith 17 }
+  -- 21 before 22
+  tooDeep : serializeTree houseStyle [] full text (0 ∷ 0 ∷ 0 ∷ 1 ∷ []) 0 .answer ≡ refusedWith 21
+  -- 15 before 17
+  noTree : serializeTree houseStyle [] freshSerializer text (0 ∷ 1 ∷ 0 ∷ 3 ∷ 1 ∷ 1 ∷ 0 ∷ 1 ∷ []) 0 .answer ≡ refusedWith 15
+
+refusals : Refusals
+unfolding shown full serializeTree houseTree houseStyle houseCalls writeTree writeNode written fits nodeCalls rowCalls atomsHold atomsHoldAll isAtomPrefix partOf decide row ahead only guard bind size sizes children depth depths table tables run step pasted freshSerializer isSound place firstAtom firstList laid innerAs inner phaseAfter flagsAfter closeAs close last putIn putAtom beginIn beginList endIn endList finishIn finishWriting isAtom outside inside escaped classOf isAtomChr marks oneOf within
+refusals = record { oneByteShort = refl; zeroLength = refl; tooDeep = refl; noTree = refl }

@@ -1,0 +1,326 @@
+// The bytes of a tree whose calls are known to fit: a walk that checks and counts nothing. The first call goes through the writer's step; from then on,
+// while a list of the tree is open, the writer is in a list.
+use crate::serialize::atom_threshold;
+use crate::serialize::closes_at;
+use crate::serialize::node_step;
+use crate::serialize::pass;
+use sise_parser::atom_bytes;
+use sise_serializer::Flags;
+use sise_serializer::Progress;
+use sise_tree::wide;
+ghost use mathlib.Core.Path.{_≡_};
+ghost use mathlib.Core.Bool.{true, false, _||_, cond};
+ghost use mathlib.Core.Option.{some};
+ghost use Prim.Native.Nat.{_+_, _*_, _≤_, _<_};
+ghost use lib.ListN.{length};
+ghost use Rattle.sise_serializer.specs.Bytes.{pasted, repeat};
+ghost use Rattle.sise_serializer.specs.Serializer.{style, newLineOf};
+ghost use Rattle.sise_serializer.specs.Steps.{joined};
+ghost use Rattle.sise_layout.specs.Calls.{run};
+ghost use Rattle.sise_tree.specs.Tree.{Node};
+ghost use Rattle.sise_tree.specs.Decision.{decide};
+ghost use Rattle.sise_tree_writer.specs.SerializeTree.{fits};
+ghost use Rattle.sise_tree_writer.specs.Writing.{textCalls, Checked};
+ghost use Rattle.sise_tree_writer.specs.Drawing.{around, opensAt, tokenAt, breaksAt, flagsLaid, leadOf, lineOf, penAt, flagsAt, Drawable, Drawn};
+
+// Where the next byte goes, and what decides the layout before it: the writer's record without phase, flags and counts.
+pub struct Pen {
+    pub position: usize,
+    pub line_len: usize,
+    pub lists: usize,
+    pub list_beginning: bool,
+}
+
+// A place in a line: where the next byte goes, and the line's length.
+pub struct Line {
+    pub position: usize,
+    pub line_len: usize,
+}
+
+// Copies `src` to the bytes of `buf` that begin at `at`. The writer's own loop is private to its crate: a public one would have to check its room, which
+// slows flat trees by some 4 percent.
+fn copy(buf: &mut [u8], at: usize, src: &[u8])
+    requires { ⌜ at + length (now src) ≤ length (now buf) ⌝ }
+    ensures { λ _. ⌜ now (buf .exit) ≡ pasted (now (buf .entry)) at (now (src .entry)) ⌝ }
+{
+    let mut i = 0;
+    while i < src.len() {
+        buf[at + i] = src[i];
+        i += 1;
+    }
+}
+
+// Copies `src` as many as `times` times, each behind the last, and returns where the last one ends.
+fn copies(buf: &mut [u8], at: usize, times: usize, src: &[u8]) -> usize
+    requires { ⌜ at + times * length (now src) ≤ length (now buf) ⌝ }
+    ensures { λ r. ⌜ r ≡ at + length (repeat times (now (src .entry))) ⌝ }
+    ensures { λ _. ⌜ now (buf .exit) ≡ pasted (now (buf .entry)) at (repeat times (now (src .entry))) ⌝ }
+{
+    let mut k = 0;
+    let mut to = at;
+    while k < times {
+        copy(buf, to, src);
+        to += src.len();
+        k += 1;
+    }
+    to
+}
+
+// A line break and `times` indentations. Returns where they end.
+fn draw_line(
+    buf: &mut [u8],
+    at: usize,
+    line_break: &[u8],
+    times: usize,
+    indentation: &[u8],
+) -> usize
+    requires { ⌜ at + length (newLineOf (style (now «line_break») (now indentation)) times) ≤ length (now buf) ⌝ }
+    ensures { λ r. ⌜ r ≡ at + length (newLineOf (style (now («line_break» .entry)) (now (indentation .entry))) times) ⌝ }
+    ensures { λ _. ⌜ now (buf .exit) ≡ pasted (now (buf .entry)) at (newLineOf (style (now («line_break» .entry)) (now (indentation .entry))) times) ⌝ }
+{
+    copy(buf, at, line_break);
+    copies(buf, at + line_break.len(), times, indentation)
+}
+
+// Whether the token goes on a new line, with `lists` lists around it; the flags are settled. A `)` does if its list is broken, and breaks the list around.
+fn breaks_line(
+    flags: &mut Flags,
+    line_len: usize,
+    lists: usize,
+    threshold: u64,
+    closes: bool,
+) -> bool
+    requires { ⌜ (lists ≤ 200) × ((closes ≡ true → lists < 200) × (closes ≡ false → 0 < lists)) ⌝ }
+    ensures { λ r. ⌜ r ≡ breaksAt (now (flags .entry)) «line_len» lists threshold closes ⌝ }
+    ensures { λ _. ⌜ now (flags .exit) ≡ flagsLaid (now (flags .entry)) «line_len» lists threshold closes ⌝ }
+{
+    if closes {
+        if !flags[lists] {
+            return false;
+        }
+        flags[lists] = false;
+        if 0 < lists {
+            flags[lists - 1] = true;
+        }
+        return true;
+    }
+    if (line_len as u64) < threshold {
+        return false;
+    }
+    flags[lists - 1] = true;
+    true
+}
+
+// What stands before the token: a new line, nothing, or a space.
+fn draw_gap(
+    buf: &mut [u8],
+    position: usize,
+    line_len: usize,
+    lists: usize,
+    line_break: &[u8],
+    indentation: &[u8],
+    breaks: bool,
+    joins: bool,
+) -> Line
+    requires { ⌜ (position + length (leadOf (style (now «line_break») (now indentation)) lists breaks joins) ≤ length (now buf)) × («line_len» ≤ position) ⌝ }
+    ensures { λ r. ⌜ r ≡ record { position = position + length (leadOf (style (now («line_break» .entry)) (now (indentation .entry))) lists breaks joins); «line_len» = lineOf (style (now («line_break» .entry)) (now (indentation .entry))) «line_len» lists breaks joins } ⌝ }
+    ensures { λ _. ⌜ now (buf .exit) ≡ pasted (now (buf .entry)) position (leadOf (style (now («line_break» .entry)) (now (indentation .entry))) lists breaks joins) ⌝ }
+{
+    if breaks {
+        return Line {
+            position: draw_line(buf, position, line_break, lists, indentation),
+            line_len: lists * indentation.len(),
+        };
+    }
+    if joins {
+        return Line { position, line_len };
+    }
+    buf[position] = 32;
+    Line {
+        position: position + 1,
+        line_len: line_len + 1,
+    }
+}
+
+// The token at its place: `)`, `(`, or the atom of node `i`.
+fn draw_token(
+    line: Line,
+    lists: usize,
+    flags: &mut Flags,
+    buf: &mut [u8],
+    text: &[u8],
+    table: &[u32],
+    i: usize,
+    closes: bool,
+    is_list: bool,
+) -> Pen
+    requires { ⌜ ((line .position + length (tokenAt (now text) (now table) i closes) ≤ length (now buf)) × (line .«line_len» ≤ line .position)) × ((closes ≡ false → 4 * (i + 1) ≤ length (now table)) × («is_list» ≡ true → lists < 200)) × («is_list» ≡ opensAt (now table) i closes) ⌝ }
+    ensures { λ r. ⌜ r ≡ penAt (line .position) (line .«line_len») lists (now (text .entry)) (now (table .entry)) i closes ⌝ }
+    ensures { λ _. ⌜ now (flags .exit) ≡ flagsAt (now (flags .entry)) lists (now (table .entry)) i closes ⌝ }
+    ensures { λ _. ⌜ now (buf .exit) ≡ pasted (now (buf .entry)) (line .position) (tokenAt (now (text .entry)) (now (table .entry)) i closes) ⌝ }
+{
+    let position = line.position;
+    if closes {
+        buf[position] = 41;
+        return Pen {
+            position: position + 1,
+            line_len: line.line_len + 1,
+            lists,
+            list_beginning: false,
+        };
+    }
+    if is_list {
+        buf[position] = 40;
+        flags[lists] = false;
+        return Pen {
+            position: position + 1,
+            line_len: line.line_len + 1,
+            lists: lists + 1,
+            list_beginning: true,
+        };
+    }
+    let atom = atom_bytes(text, wide(table[4 * i + 1]), wide(table[4 * i + 2]));
+    copy(buf, position, atom);
+    Pen {
+        position: position + atom.len(),
+        line_len: line.line_len + atom.len(),
+        lists,
+        list_beginning: false,
+    }
+}
+
+// The lists around the token: a `)` stands outside the list that it closes.
+fn around(lists: usize, closes: bool) -> usize
+    requires { ⌜ 0 < lists ⌝ }
+    ensures { λ r. ⌜ r ≡ around lists closes ⌝ }
+{
+    if closes { lists - 1 } else { lists }
+}
+
+// Whether the token is a `(`.
+fn opens_list(table: &[u32], i: usize, closes: bool) -> bool
+    requires { ⌜ (closes ≡ false → 4 * (i + 1) ≤ length (now table)) ⌝ }
+    ensures { λ r. ⌜ r ≡ opensAt (now (table .entry)) i closes ⌝ }
+{
+    if closes {
+        return false;
+    }
+    table[4 * i] == 0
+}
+
+// The threshold of a turn, `atom_at` if not a list's. A `)` has none.
+fn threshold_at(is_list: bool, atom_at: u64, break_line_at: u64) -> u64
+    ensures { λ r. ⌜ r ≡ cond «is_list» «break_line_at» «atom_at» ⌝ }
+{
+    if is_list { break_line_at } else { atom_at }
+}
+
+// Whether the token may stand right behind what is before it: a `)`, or the first item of a list.
+fn joins_on(closes: bool, list_beginning: bool) -> bool
+    ensures { λ r. ⌜ r ≡ (closes || «list_beginning») ⌝ }
+{
+    if closes {
+        return true;
+    }
+    list_beginning
+}
+
+// One turn: the end of the innermost list, or node `i`'s call.
+fn draw_turn(
+    pen: Pen,
+    flags: &mut Flags,
+    line_break: &[u8],
+    indentation: &[u8],
+    buf: &mut [u8],
+    text: &[u8],
+    table: &[u32],
+    i: usize,
+    closes: bool,
+    atom_at: u64,
+    break_line_at: u64,
+) -> Pen
+    requires { ⌜ Drawable (style (now «line_break») (now indentation)) pen (now flags) (now text) (now table) i closes «atom_at» «break_line_at» (length (now buf)) ⌝ }
+    ensures { λ r. ⌜ Drawn (style (now («line_break» .entry)) (now (indentation .entry))) pen (now (flags .entry)) (now (text .entry)) (now (table .entry)) i closes «atom_at» «break_line_at» (now (buf .entry)) r (now (flags .exit)) (now (buf .exit)) ⌝ }
+{
+    let is_list = opens_list(table, i, closes);
+    let lists = around(pen.lists, closes);
+    let threshold = threshold_at(is_list, atom_at, break_line_at);
+    let breaks = breaks_line(flags, pen.line_len, lists, threshold, closes);
+    let joins = joins_on(closes, pen.list_beginning);
+    let line = draw_gap(
+        buf,
+        pen.position,
+        pen.line_len,
+        lists,
+        line_break,
+        indentation,
+        breaks,
+        joins,
+    );
+    draw_token(line, lists, flags, buf, text, table, i, closes, is_list)
+}
+
+// Writes the tree, and finish's line break if wished. All of its calls fit.
+pub(crate) fn write_nodes(
+    progress: Progress,
+    flags: &mut Flags,
+    line_break: &[u8],
+    indentation: &[u8],
+    buf: &mut [u8],
+    text: &[u8],
+    table: &[u32],
+    break_line_at: u64,
+    finish: bool,
+)
+    requires { ⌜ Checked (now text) (now table) × ((n : Node) → decide (length (now text)) (now table) ≡ some n → fits (style (now «line_break») (now indentation)) (length (now buf)) (joined progress (now flags)) (textCalls (now text) «break_line_at» finish n) ≡ true) ⌝ }
+    ensures { λ _. ⌜ ((n : Node) → decide (length (now (text .entry))) (now (table .entry)) ≡ some n → now (buf .exit) ≡ run (style (now («line_break» .entry)) (now (indentation .entry))) (now (buf .entry)) (joined progress (now (flags .entry))) (textCalls (now (text .entry)) «break_line_at» finish n) .buffer) ⌝ }
+{
+    let mut ends = [0usize; 200];
+    let first = node_step(
+        progress,
+        flags,
+        line_break,
+        indentation,
+        buf,
+        text,
+        table,
+        0,
+        break_line_at,
+        break_line_at,
+        true,
+    );
+    let begun = first.progress;
+    let root = pass(table, &mut ends, 0, 0, false);
+    let mut pen = Pen {
+        position: begun.position,
+        line_len: begun.line_len,
+        lists: begun.lists,
+        list_beginning: begun.list_beginning,
+    };
+    let mut open = root.open;
+    let mut i = root.i;
+    let mut atom_at = atom_threshold(root.begins, break_line_at);
+    while 0 < open {
+        let closes = closes_at(&ends, open, i);
+        pen = draw_turn(
+            pen,
+            flags,
+            line_break,
+            indentation,
+            buf,
+            text,
+            table,
+            i,
+            closes,
+            atom_at,
+            break_line_at,
+        );
+        let place = pass(table, &mut ends, open, i, closes);
+        atom_at = atom_threshold(place.begins, break_line_at);
+        open = place.open;
+        i = place.i;
+    }
+    if finish {
+        copy(buf, pen.position, line_break);
+    }
+}
