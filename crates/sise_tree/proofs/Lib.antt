@@ -29,3 +29,5 @@ pub mod MeasuredTurns
 pub mod MeasuredWalk
 pub mod Drawing
 pub mod DrawWalk
+pub mod Placing
+pub mod Rooms
