@@ -31,3 +31,4 @@ pub mod Drawing
 pub mod DrawWalk
 pub mod Placing
 pub mod Rooms
+pub mod OnlyRoom
