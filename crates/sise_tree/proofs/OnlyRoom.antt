@@ -7,9 +7,9 @@ use mathlib.Core.Path.{_≡_, refl, sym, ap, _∙_}
 use mathlib.Core.Bool.{Bool, true, false, _&&_, cond, false≢true}
 use mathlib.Core.Option.{Option, none, some}
 use mathlib.Core.List.{List, [], _∷_, _++_, append-assoc, append-nil}
-use lib.Dec.{leb, eqb}
+use lib.Dec.{leb, ltb}
 use lib.ListN.{length, drop, getD}
-use borrow.Author.Tests.{leb-true, leb-false, eqb-true, ne-eqb}
+use borrow.Author.Tests.{leb-true, leb-false, ltb-false, eqb-true, ne-eqb}
 use Rattle.sise_util.specs.Atom.{isAtom, isAtomPrefix}
 use Rattle.sise_util.proofs.Ranges.{split, and-first, and-second}
 use Rattle.sise_parser.specs.Reader.{partOf}
@@ -22,7 +22,10 @@ use Rattle.sise_serializer.proofs.Sound.{sound, writing-lists}
 use Rattle.sise_layout.specs.Calls.{largest, Call, putAtomCall, beginListCall, endListCall, finishCall, step}
 use Rattle.sise_layout.proofs.Verdicts.{endOf, put, Puts, atomAlone, atomInside, listFirst, listInside, listClosed, textEnded}
 use Rattle.sise_tree.specs.Tree.{Node, atom, list, Nodes, empty, _then_, depth, depths}
-use Rattle.sise_tree.specs.SerializeTree.{nodeCalls, rowCalls, treeCalls, atomsHold, atomsHoldAll, fits, refuse, written, isOver}
+use Rattle.sise_tree.specs.Decision.{decide}
+use Rattle.sise_tree.specs.ParseTree.{longest}
+use Rattle.sise_tree.specs.Answers.{Answer, refusedWith}
+use Rattle.sise_tree.specs.SerializeTree.{nodeCalls, rowCalls, treeCalls, atomsHold, atomsHoldAll, fits, refuse, written, isOver, writeNode, writeTree, serializeTree}
 use Rattle.sise_tree.specs.Writing.{textCalls}
 use Rattle.sise_tree.specs.Measuring.{clip, firstAfter, itemAfter, closeAfter, nodeAfter, turnAfter}
 use Rattle.sise_tree.proofs.CallLaws.{checked-atom, fits-off}
@@ -30,6 +33,7 @@ use Rattle.sise_tree.proofs.Measuring.{turn-node}
 use Rattle.sise_tree.proofs.Sizes.{Sized, first-atom-sized, first-list-sized, inner-sized, close-sized}
 use Rattle.sise_tree.proofs.SoundSteps.{turn-sound}
 use Rattle.sise_tree.proofs.Placing.{placed, not-placed, puts-place, put-fits}
+use Rattle.sise_tree.proofs.Rooms.{no-answer, same-number, on-answer}
 
 -- a refusal's number, or what follows an accepted call
 abbrev pub refusalOr : writer.Answer → Option ℕ → Option ℕ
@@ -202,6 +206,17 @@ module _ (s : Style) (room : ℕ) where
 
 -- ---- the laws
 
+-- a tree has a first call
+tree-begun : (text : List ℕ) (t : ℕ) (n : Node) → (c : Call) × (cs : List Call) × (treeCalls text t n ≡ c ∷ cs)
+unfolding nodeCalls
+tree-begun text t (atom p m) = (putAtomCall (partOf text p m) t, [], refl)
+tree-begun text t (list c) = (beginListCall t, rowCalls text largest t c ++ endListCall ∷ [], refl)
+
+text-begun : (text : List ℕ) (t : ℕ) (wished : Bool) (n : Node) → (c : Call) × (cs : List Call) × (textCalls text t wished n ≡ c ∷ cs)
+unfolding textCalls
+text-begun text t true n = let (c, cs, e) = tree-begun text t n in (c, cs ++ finishCall true ∷ [], ap (λ (l : List Call). l ++ finishCall true ∷ []) e)
+text-begun text t false n = tree-begun text t n
+
 -- of a tree's calls, from a sound record that takes one
 module _ (s : Style) (room : ℕ) (w : Serializer) (text : List ℕ) (t : ℕ) (n : Node) where
   tree-in : (f : Phase) → w .phase ≡ f → isSound w ≡ true → isOver f ≡ false → atomsHold text n ≡ true → w .lists + depth n ≤ deepest → Only22 s room w (treeCalls text t n ++ [])
@@ -227,13 +242,57 @@ unfolding textCalls
 text-refusal s room text t true n g r = whole-takes s room text t n (finishCall true ∷ []) g r (a-finish s room true) .only freshSerializer fresh-at
 text-refusal s room text t false n g r = rw (append-nil (treeCalls text t n)) at (whole-takes s room text t n [] g r (no-calls s room) .only freshSerializer fresh-at)
 
--- and so what is written is refused with the number of the first refusal, which is 22
-module _ (s : Style) (b : List ℕ) (w : Serializer) (cs : List Call) (only : firstRefusal s (length b) w cs ≡ cond (fits s (length b) w cs) none (some 22)) {k : ℕ} where
-  pub number-22 : firstRefusal s (length b) w cs ≡ some k → k ≡ 22
-  number-22 e = split (fits s (length b) w cs) (λ f. let z : none ≡ some k = sym (rw f at only) ∙ e in let y : _≡_ {A = ℕ} 0 1 = cc in absurd (omega arith)) (λ f. let z : some 22 ≡ some k = sym (rw f at only) ∙ e in cc)
+-- ---- what it says of the tree calls
 
-  pub refused-first : firstRefusal s (length b) w cs ≡ some k → written s b w cs ≡ refuse k b w
-  unfolding written
-  refused-first e =
-      rw (number-22 e)
-      (split (fits s (length b) w cs) (λ f. let z : none ≡ some k = sym (rw f at only) ∙ e in let y : _≡_ {A = ℕ} 0 1 = cc in absurd (omega arith)) (λ f. rw f))
+off-number : {k : ℕ} (x : Bool) → cond x none (some 22) ≡ some k → (x ≡ false) × (k ≡ 22)
+off-number {k} true e = let z : _≡_ {A = ℕ} 0 1 = cc in absurd (omega arith)
+off-number {k} false e = (refl, cc)
+
+-- what is refused for its room has the number of the first refusal, which is 22
+pub refused-first : (s : Style) (b : List ℕ) (w : Serializer) (cs : List Call) {k : ℕ} → Only22 s (length b) w cs → firstRefusal s (length b) w cs ≡ some k
+    → (k ≡ 22) × (written s b w cs ≡ refuse k b w)
+unfolding written
+refused-first s b w cs only e = let (f, z) = off-number (fits s (length b) w cs) (sym only ∙ e) in (z, rw (f, z))
+
+-- calls that are some, and of which only 22 is to be feared once the tests are passed
+module _ (s : Style) (b : List ℕ) (w : Serializer) (text : List ℕ) (calls : Node → List Call) (begun : (n : Node) → (c : Call) × (cs : List Call) × (calls n ≡ c ∷ cs))
+    (only : (n : Node) → isSound w ≡ true → isOver (w .phase) ≡ false → atomsHold text n ≡ true → w .lists + depth n ≤ deepest → Only22 s (length b) w (calls n)) where
+  made-22 : (n : Node) → Only22 s (length b) w (calls n) → written s b w (calls n) .answer ≡ refusedWith 22 → firstRefusal s (length b) w (calls n) ≡ some 22
+  made-22 n o h =
+      let (c, cs, e) = begun n in
+      split (fits s (length b) w (calls n))
+      (λ f. let (p, a) = on-answer s b w c cs (rw e at f) in no-answer (sym h ∙ ap (λ (l : List Call). written s b w l .answer) e ∙ a))
+      (λ f. o ∙ ap (λ (x : Bool). cond x none (some 22)) f)
+
+  node-22 : (d : Option Node) → isSound w ≡ true → writeNode s b w text calls d .answer ≡ refusedWith 22 → (n : Node) × (d ≡ some n) × (firstRefusal s (length b) w (calls n) ≡ some 22)
+  unfolding writeNode
+  node-22 none h e = let z = same-number e in absurd (omega arith)
+  node-22 (some n) h e =
+      split (atomsHold text n)
+      (λ a.
+      split (isOver (w .phase)) (λ v. let z = same-number (rw (a, v) at e) in absurd (omega arith))
+      (λ v.
+      split (ltb deepest (w .lists + depth n)) (λ t. let z = same-number (rw (a, v, t) at e) in absurd (omega arith))
+      (λ t. (n, refl, made-22 n (only n h v a (ltb-false deepest (w .lists + depth n) t)) (rw (a, v, t) at e)))))
+      (λ a. let z = same-number (rw a at e) in absurd (omega arith))
+
+  answer-22 : (words : List ℕ) → writeTree s b w text words calls .answer ≡ refusedWith 22
+      → (n : Node) × (decide (length text) words ≡ some n) × (firstRefusal s (length b) w (calls n) ≡ some 22)
+  unfolding writeTree
+  answer-22 words e =
+      split (ltb longest (length text)) (λ l. let z = same-number (rw l at e) in absurd (omega arith))
+      (λ l.
+      split (isSound w) (λ h. node-22 (decide (length text) words) h (rw (l, h) at e)) (λ h. let z = same-number (rw (l, h) at e) in absurd (omega arith)))
+
+-- serialize_tree answers 22 only if the first of the tree's calls that is refused is refused with 22
+pub tree-22 : (s : Style) (b : List ℕ) (w : Serializer) (text words : List ℕ) (t : ℕ) → serializeTree s b w text words t .answer ≡ refusedWith 22
+    → (n : Node) × (decide (length text) words ≡ some n) × (firstRefusal s (length b) w (treeCalls text t n) ≡ some 22)
+unfolding serializeTree
+tree-22 s b w text words t = answer-22 s b w text (treeCalls text t) (tree-begun text t) (λ n. tree-refusal s (length b) w text t n) words
+
+-- and so does write_text
+pub text-22 : (s : Style) (b text words : List ℕ) (t : ℕ) (wished : Bool) → writeTree s b freshSerializer text words (textCalls text t wished) .answer ≡ refusedWith 22
+    → (n : Node) × (decide (length text) words ≡ some n) × (firstRefusal s (length b) freshSerializer (textCalls text t wished n) ≡ some 22)
+unfolding freshSerializer
+text-22 s b text words t wished =
+    answer-22 s b freshSerializer text (textCalls text t wished) (text-begun text t wished) (λ n h o g r. text-refusal s (length b) text t wished n g (omega arith)) words
