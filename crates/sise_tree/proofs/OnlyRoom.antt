@@ -1,20 +1,20 @@
 -- After 11, 17, 19 and 21 no refusal but 22 is left: the first of a tree's calls that is refused, if one is, is refused with 22. For a tree's calls begin
 -- and end their lists in pairs, so each is made in a phase that takes it.
 -- Assumes nothing.
-use Prim.Native.Nat.{ℕ, _+_, _-_, _≤_, _<_, min, max}
+use Prim.Native.Nat.{ℕ, _+_, _-_, _≤_, _<_, min}
 use native.Mathlib.Omega.{arith}
 use mathlib.Core.Path.{_≡_, refl, sym, ap, _∙_}
-use mathlib.Core.Bool.{Bool, true, false, _&&_, cond, false≢true}
+use mathlib.Core.Bool.{Bool, true, false, cond, false≢true}
 use mathlib.Core.Option.{Option, none, some}
 use mathlib.Core.List.{List, [], _∷_, _++_, append-assoc, append-nil}
 use lib.Dec.{leb, ltb}
-use lib.ListN.{length, drop, getD}
+use lib.ListN.{length}
 use borrow.Author.Tests.{leb-true, leb-false, ltb-false, eqb-true, ne-eqb}
-use Rattle.sise_util.specs.Atom.{isAtom, isAtomPrefix}
+use Rattle.sise_util.specs.Atom.{isAtom}
 use Rattle.sise_util.proofs.Ranges.{split, and-first, and-second}
 use Rattle.sise_parser.specs.Reader.{partOf}
 use Rattle.sise_serializer.specs.Serializer as writer
-use Rattle.sise_serializer.specs.Serializer.{Style, Piece, Written, limit, deepest, listsFit, isSound, freshSerializer, firstAtom, firstList, inner, innerAs, phaseAfter, close, closeAs, last}
+use Rattle.sise_serializer.specs.Serializer.{Style, Piece, Written, limit, deepest, listsFit, isSound, freshSerializer, firstAtom, firstList, inner, innerAs, phaseAfter, close, closeAs}
 use Rattle.sise_serializer.specs.declared.serializer.Phase.{Phase}
 use Rattle.sise_serializer.specs.declared.serializer.Phase.the-variants.{Beginning, Writing, Finished, Done}
 use Rattle.sise_serializer.specs.declared.serializer.Serializer.{Serializer}
@@ -24,10 +24,10 @@ use Rattle.sise_layout.proofs.Verdicts.{endOf, put, Puts, atomAlone, atomInside
 use Rattle.sise_tree.specs.Tree.{Node, atom, list, Nodes, empty, _then_, depth, depths}
 use Rattle.sise_tree.specs.Decision.{decide}
 use Rattle.sise_tree.specs.ParseTree.{longest}
-use Rattle.sise_tree.specs.Answers.{Answer, refusedWith}
+use Rattle.sise_tree.specs.Answers.{refusedWith}
 use Rattle.sise_tree.specs.SerializeTree.{nodeCalls, rowCalls, treeCalls, atomsHold, atomsHoldAll, fits, refuse, written, isOver, writeNode, writeTree, serializeTree}
 use Rattle.sise_tree.specs.Writing.{textCalls}
-use Rattle.sise_tree.specs.Measuring.{clip, firstAfter, itemAfter, closeAfter, nodeAfter, turnAfter}
+use Rattle.sise_tree.specs.Measuring.{clip, nodeAfter, turnAfter}
 use Rattle.sise_tree.proofs.CallLaws.{checked-atom, fits-off}
 use Rattle.sise_tree.proofs.Measuring.{turn-node}
 use Rattle.sise_tree.proofs.Sizes.{Sized, first-atom-sized, first-list-sized, inner-sized, close-sized}
@@ -45,12 +45,19 @@ unfoldable pub firstRefusal : Style → ℕ → Serializer → List Call → Opt
 firstRefusal s room w [] = none
 firstRefusal s room w (c ∷ cs) = refusalOr (step s room w c .answer) (firstRefusal s room (step s room w c .serializer) cs)
 
+-- it is none where the calls fit, and else 22
+abbrev pub Only22 : Style → ℕ → Serializer → List Call → Type 0
+Only22 s room w cs = firstRefusal s room w cs ≡ cond (fits s room w cs) none (some 22)
+
 -- ---- a sound record is sound after each item
+
+no : {A : Type 0} → false ≡ true → A
+no e = absurd (false≢true e)
 
 -- an atom has a byte
 some-bytes : (a : List ℕ) → isAtom a ≡ true → 1 ≤ length a
 unfolding isAtom
-some-bytes [] h = absurd (false≢true h)
+some-bytes [] h = no h
 some-bytes (b ∷ a) h = omega arith
 
 -- by the record that the piece's sizes give
@@ -66,45 +73,62 @@ record At (f : Phase) (d : ℕ) (w : Serializer) : Type 0 where
   phase : w .phase ≡ f
   lists : w .lists ≡ d
 
+-- the sizes of the style's strings
+abbrev b : Style → ℕ
+b s = clip (length (s .lineBreak))
+
+abbrev i : Style → ℕ
+i s = clip (length (s .indentation))
+
 module _ (s : Style) {f : Phase} {d : ℕ} {w : Serializer} (at : At f d w) where
-  abbrev b : ℕ
-  b = clip (length (s .lineBreak))
-
-  abbrev i : ℕ
-  i = clip (length (s .indentation))
-
   -- the record that a node's sizes give
   node-sound : (n : ℕ) (isList : Bool) (t : ℕ) → (isList ≡ true → n ≡ 1) → (f ≡ Writing → isList ≡ true → d < deepest) → 1 ≤ n
-      → nodeAfter f b i w n isList t .position ≤ limit → isSound (nodeAfter f b i w n isList t) ≡ true
+      → nodeAfter f (b s) (i s) w n isList t .position ≤ limit → isSound (nodeAfter f (b s) (i s) w n isList t) ≡ true
   node-sound n isList t z r one q =
-      let y = turn-node b i w n isList t refl (at .phase) in
+      let y = turn-node (b s) (i s) w n isList t refl (at .phase) in
       ap isSound (sym y)
-      ∙ turn-sound b i w (at .sound) false n isList t (λ k. absurd (false≢true k)) z (λ g k. omega (arith, at .lists, r (sym (at .phase) ∙ g) k)) one (rw y q)
+      ∙ turn-sound (b s) (i s) w (at .sound) false n isList t no z (λ g k. omega (arith, at .lists, r (sym (at .phase) ∙ g) k)) one (rw y q)
 
 -- the first item
 module _ (s : Style) {w : Serializer} (at : At Beginning 0 w) where
   after-first-atom : (a : List ℕ) → isAtom a ≡ true → endOf w (firstAtom w a) ≤ limit → At Finished 0 (firstAtom w a .after)
   unfolding firstAtom nodeAfter
-  after-first-atom a g e = record { sound = sized-sound (first-atom-sized w a) e (node-sound s at (length a) false 0 (λ k. absurd (false≢true k)) (λ _ k. absurd (false≢true k)) (some-bytes a g)); phase = refl; lists = refl }
+  after-first-atom a g e = record {
+    sound = sized-sound (first-atom-sized w a) e (node-sound s at (length a) false 0 no (λ _. no) (some-bytes a g));
+    phase = refl;
+    lists = refl;
+  }
 
   after-first-list : endOf w (firstList w) ≤ limit → At Writing 1 (firstList w .after)
   unfolding firstList nodeAfter
-  after-first-list e = record { sound = sized-sound (first-list-sized w) e (node-sound s at 1 true 0 (λ _. refl) (λ g k. let z : _≡_ {A = ℕ} 0 1 = cc in absurd (omega arith)) (omega arith)); phase = refl; lists = refl }
+  after-first-list e = record {
+    sound = sized-sound (first-list-sized w) e (node-sound s at 1 true 0 (λ _. refl) (λ g k. let z : _≡_ {A = ℕ} 0 1 = cc in absurd (omega arith)) (omega arith));
+    phase = refl;
+    lists = refl;
+  }
 
 -- an item in a list, and a list's end
 module _ (s : Style) {d : ℕ} {w : Serializer} (at : At Writing d w) where
   after-atom : (a : List ℕ) (t : ℕ) → isAtom a ≡ true → endOf w (inner s w a false t) ≤ limit → At Writing d (inner s w a false t .after)
   unfolding inner innerAs nodeAfter
-  after-atom a t g e = record { sound = sized-sound (inner-sized w s a false t) e (node-sound s at (length a) false t (λ k. absurd (false≢true k)) (λ _ k. absurd (false≢true k)) (some-bytes a g)); phase = refl; lists = at .lists }
+  after-atom a t g e = record {
+    sound = sized-sound (inner-sized w s a false t) e (node-sound s at (length a) false t no (λ _. no) (some-bytes a g));
+    phase = refl;
+    lists = at .lists;
+  }
 
   after-list : (t : ℕ) → d < deepest → endOf w (inner s w (40 ∷ []) true t) ≤ limit → At Writing (d + 1) (inner s w (40 ∷ []) true t .after)
   unfolding inner innerAs nodeAfter
-  after-list t r e = record { sound = sized-sound (inner-sized w s (40 ∷ []) true t) e (node-sound s at 1 true t (λ _. refl) (λ _ _. r) (omega arith)); phase = refl; lists = ap (λ (n : ℕ). n + 1) (at .lists) }
+  after-list t r e = record {
+    sound = sized-sound (inner-sized w s (40 ∷ []) true t) e (node-sound s at 1 true t (λ _. refl) (λ _ _. r) (omega arith));
+    phase = refl;
+    lists = ap (λ (n : ℕ). n + 1) (at .lists);
+  }
 
   after-end : endOf w (close s w) ≤ limit → At (phaseAfter (d - 1)) (d - 1) (close s w .after)
   unfolding close closeAs turnAfter
   after-end e = record {
-    sound = sized-sound (close-sized w s) e (turn-sound (b s at) (i s at) w (at .sound) true 1 false 0 (λ _. writing-lists w (at .sound) (at .phase)) (λ _. refl) (λ _ k. absurd (false≢true k)) (omega arith));
+    sound = sized-sound (close-sized w s) e (turn-sound (b s) (i s) w (at .sound) true 1 false 0 (λ _. writing-lists w (at .sound) (at .phase)) (λ _. refl) (λ _. no) (omega arith));
     phase = ap (λ (n : ℕ). phaseAfter (n - 1)) (at .lists);
     lists = ap (λ (n : ℕ). n - 1) (at .lists);
   }
@@ -112,22 +136,18 @@ module _ (s : Style) {d : ℕ} {w : Serializer} (at : At Writing d w) where
 -- ---- calls of which only 22 is to be feared
 
 module _ (s : Style) (room : ℕ) where
-  -- from the record w
-  abbrev pub Only22 : Serializer → List Call → Type 0
-  Only22 w cs = firstRefusal s room w cs ≡ cond (fits s room w cs) none (some 22)
-
   put-refusal : (w : Serializer) (c : Call) (cs : List Call) (p : Piece) → step s room w c ≡ put w p → firstRefusal s room w (c ∷ cs) ≡ firstRefusal s room (p .after) cs
   unfolding firstRefusal
   put-refusal w c cs p e = ap (λ (r : Written). refusalOr (r .answer) (firstRefusal s room (r .serializer) cs)) e
 
-  no-room : (w : Serializer) (c : Call) (cs : List Call) → step s room w c ≡ writer.refuse 22 w → Only22 w (c ∷ cs)
+  no-room : (w : Serializer) (c : Call) (cs : List Call) → step s room w c ≡ writer.refuse 22 w → Only22 s room w (c ∷ cs)
   unfolding firstRefusal
   no-room w c cs e =
       ap (λ (r : Written). refusalOr (r .answer) (firstRefusal s room (r .serializer) cs)) e
       ∙ sym (ap (λ (x : Bool). cond x none (some 22)) (fits-off s room w c cs (ap (λ (r : Written). r .answer) e)))
 
   -- a call that may be made, if only 22 is to be feared of those behind it
-  only-on : (w : Serializer) {c : Call} (cs : List Call) {p : Piece} → isSound w ≡ true → Puts s w c p → (endOf w p ≤ limit → Only22 (p .after) cs) → Only22 w (c ∷ cs)
+  only-on : (w : Serializer) {c : Call} (cs : List Call) {p : Piece} → isSound w ≡ true → Puts s w c p → (endOf w p ≤ limit → Only22 s room (p .after) cs) → Only22 s room w (c ∷ cs)
   only-on w {c} cs {p} h q more =
       let is = puts-place s room w h q in
       split (leb (endOf w p) (min room limit))
@@ -139,7 +159,7 @@ module _ (s : Style) (room : ℕ) where
 
   -- from every sound record in this phase, with so many lists open
   record Takes (f : Phase) (d : ℕ) (cs : List Call) : Type 0 where
-    only : (w : Serializer) → At f d w → Only22 w cs
+    only : (w : Serializer) → At f d w → Only22 s room w cs
 
   no-calls : {f : Phase} {d : ℕ} → Takes f d []
   unfolding firstRefusal fits
@@ -206,17 +226,6 @@ module _ (s : Style) (room : ℕ) where
 
 -- ---- the laws
 
--- a tree has a first call
-tree-begun : (text : List ℕ) (t : ℕ) (n : Node) → (c : Call) × (cs : List Call) × (treeCalls text t n ≡ c ∷ cs)
-unfolding nodeCalls
-tree-begun text t (atom p m) = (putAtomCall (partOf text p m) t, [], refl)
-tree-begun text t (list c) = (beginListCall t, rowCalls text largest t c ++ endListCall ∷ [], refl)
-
-text-begun : (text : List ℕ) (t : ℕ) (wished : Bool) (n : Node) → (c : Call) × (cs : List Call) × (textCalls text t wished n ≡ c ∷ cs)
-unfolding textCalls
-text-begun text t true n = let (c, cs, e) = tree-begun text t n in (c, cs ++ finishCall true ∷ [], ap (λ (l : List Call). l ++ finishCall true ∷ []) e)
-text-begun text t false n = tree-begun text t n
-
 -- of a tree's calls, from a sound record that takes one
 module _ (s : Style) (room : ℕ) (w : Serializer) (text : List ℕ) (t : ℕ) (n : Node) where
   tree-in : (f : Phase) → w .phase ≡ f → isSound w ≡ true → isOver f ≡ false → atomsHold text n ≡ true → w .lists + depth n ≤ deepest → Only22 s room w (treeCalls text t n ++ [])
@@ -224,8 +233,8 @@ module _ (s : Style) (room : ℕ) (w : Serializer) (text : List ℕ) (t : ℕ) (
       let z : w .lists ≡ 0 = eqb-true (w .lists) 0 (ap (λ (p : Phase). listsFit p (w .lists)) (sym e) ∙ sound w h .checked .opens) in
       whole-takes s room text t n [] g (omega arith) (no-calls s room) .only w (record { sound = h; phase = e; lists = z })
   tree-in Writing e h o g r = node-takes s room text t n t (w .lists) [] g (writing-lists w h e) r (no-calls s room) .only w (record { sound = h; phase = e; lists = refl })
-  tree-in Finished e h o g r = absurd (false≢true (sym o))
-  tree-in Done e h o g r = absurd (false≢true (sym o))
+  tree-in Finished e h o g r = no (sym o)
+  tree-in Done e h o g r = no (sym o)
 
   pub tree-refusal : isSound w ≡ true → isOver (w .phase) ≡ false → atomsHold text n ≡ true → w .lists + depth n ≤ deepest
       → firstRefusal s room w (treeCalls text t n) ≡ cond (fits s room w (treeCalls text t n)) none (some 22)
@@ -283,6 +292,17 @@ module _ (s : Style) (b : List ℕ) (w : Serializer) (text : List ℕ) (calls : 
       split (ltb longest (length text)) (λ l. let z = same-number (rw l at e) in absurd (omega arith))
       (λ l.
       split (isSound w) (λ h. node-22 (decide (length text) words) h (rw (l, h) at e)) (λ h. let z = same-number (rw (l, h) at e) in absurd (omega arith)))
+
+-- a tree has a first call
+tree-begun : (text : List ℕ) (t : ℕ) (n : Node) → (c : Call) × (cs : List Call) × (treeCalls text t n ≡ c ∷ cs)
+unfolding nodeCalls
+tree-begun text t (atom p m) = (putAtomCall (partOf text p m) t, [], refl)
+tree-begun text t (list c) = (beginListCall t, rowCalls text largest t c ++ endListCall ∷ [], refl)
+
+text-begun : (text : List ℕ) (t : ℕ) (wished : Bool) (n : Node) → (c : Call) × (cs : List Call) × (textCalls text t wished n ≡ c ∷ cs)
+unfolding textCalls
+text-begun text t true n = let (c, cs, e) = tree-begun text t n in (c, cs ++ finishCall true ∷ [], ap (λ (l : List Call). l ++ finishCall true ∷ []) e)
+text-begun text t false n = tree-begun text t n
 
 -- serialize_tree answers 22 only if the first of the tree's calls that is refused is refused with 22
 pub tree-22 : (s : Style) (b : List ℕ) (w : Serializer) (text words : List ℕ) (t : ℕ) → serializeTree s b w text words t .answer ≡ refusedWith 22

@@ -1,11 +1,10 @@
 -- A call that may be made puts one piece, in whatever room: it is accepted where the piece's end lies in the room, and else refused with 22.
 -- Assumes nothing.
-use Prim.Native.Nat.{ℕ, _+_, _≤_, _<_, min}
+use Prim.Native.Nat.{ℕ, _≤_, _<_, min}
 use native.Mathlib.Omega.{arith}
-use mathlib.Core.Path.{_≡_, refl, sym, ap, _∙_}
-use mathlib.Core.Bool.{Bool, true, false, _&&_, false≢true}
-use mathlib.Core.List.{List, [], _∷_}
-use lib.ListN.{length, getD}
+use mathlib.Core.Path.{_≡_, sym, ap, _∙_}
+use mathlib.Core.Bool.{true, false, _&&_, false≢true}
+use mathlib.Core.List.{List, _∷_}
 use borrow.Author.Tests.{le-leb, lt-leb}
 use Rattle.sise_util.proofs.Ranges.{split}
 use Rattle.sise_serializer.specs.Serializer as writer

@@ -5,7 +5,7 @@
 use Prim.Native.Nat.{ℕ, _+_, _≤_, _<_, min}
 use native.Mathlib.Omega.{arith}
 use mathlib.Core.Path.{_≡_, refl, sym, ap, _∙_}
-use mathlib.Core.Bool.{Bool, true, false, cond, false≢true}
+use mathlib.Core.Bool.{true, false, false≢true}
 use mathlib.Core.Option.{Option, none, some}
 use mathlib.Core.List.{List, [], _∷_, _++_}
 use lib.Dec.{leb, ltb}
@@ -14,7 +14,7 @@ use borrow.Author.Tests.{le-leb, lt-leb, leb-true, leb-false}
 use Rattle.sise_util.proofs.Ranges.{split, and-first}
 use Rattle.sise_serializer.specs.Bytes.{pasted}
 use Rattle.sise_serializer.specs.Serializer as writer
-use Rattle.sise_serializer.specs.Serializer.{Style, Piece, Written, limit, deepest, isSound}
+use Rattle.sise_serializer.specs.Serializer.{Style, Written, limit, deepest, isSound}
 use Rattle.sise_serializer.specs.declared.serializer.Serializer.{Serializer}
 use Rattle.sise_layout.specs.Calls.{isAccepted, Call, step, run}
 use Rattle.sise_layout.proofs.Buffers.{pasted-length}
@@ -24,7 +24,7 @@ use Rattle.sise_tree.specs.Decision.{decide}
 use Rattle.sise_tree.specs.ParseTree.{longest}
 use Rattle.sise_tree.specs.Answers.{Answer, answered, refusedWith, numberOf}
 use Rattle.sise_tree.specs.SerializeTree.{atomsHold, fits, Writes, refuse, firstOffset, written, isOver, writeNode, writeTree}
-use Rattle.sise_tree.proofs.CallLaws.{fits-on, fits-off}
+use Rattle.sise_tree.proofs.CallLaws.{fits-off}
 use Rattle.sise_tree.proofs.Placing.{placed, not-placed, puts-end, puts-place, put-fits, Lands, lands}
 
 -- ---- the first of the calls, accepted in the buffer b
