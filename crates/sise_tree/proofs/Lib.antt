@@ -31,4 +31,5 @@ pub mod Drawing
 pub mod DrawWalk
 pub mod Placing
 pub mod Rooms
+pub mod TreeRooms
 pub mod OnlyRoom

@@ -1,29 +1,24 @@
--- What was written, or measured, in one buffer tells of every other: where calls are all accepted and leave the position n, they are accepted in every
--- buffer of n bytes or more, with the same record and the same answers, and in no shorter one. For each call puts its piece whatever the room, and the
--- position never goes down.
+-- Calls that are all accepted in one buffer, and leave the position n, are accepted in every buffer of n bytes or more, with the same record, answers and
+-- bytes, and in no shorter one: each call puts its piece whatever the room, and the position never goes down.
 -- Assumes nothing.
-use Prim.Native.Nat.{ℕ, _+_, _≤_, _<_, min}
+use Prim.Native.Nat.{ℕ, _+_, _≤_, min}
 use native.Mathlib.Omega.{arith}
 use mathlib.Core.Path.{_≡_, refl, sym, ap, _∙_}
 use mathlib.Core.Bool.{true, false, false≢true}
-use mathlib.Core.Option.{Option, none, some}
 use mathlib.Core.List.{List, [], _∷_, _++_}
-use lib.Dec.{leb, ltb}
+use lib.Dec.{leb}
 use lib.ListN.{length, length-append}
 use borrow.Author.Tests.{le-leb, lt-leb, leb-true, leb-false}
-use Rattle.sise_util.proofs.Ranges.{split, and-first}
+use Rattle.sise_util.proofs.Ranges.{split, and-first, and-second}
 use Rattle.sise_serializer.specs.Bytes.{pasted}
 use Rattle.sise_serializer.specs.Serializer as writer
-use Rattle.sise_serializer.specs.Serializer.{Style, Written, limit, deepest, isSound}
+use Rattle.sise_serializer.specs.Serializer.{Style, Written, limit, freshSerializer}
 use Rattle.sise_serializer.specs.declared.serializer.Serializer.{Serializer}
-use Rattle.sise_layout.specs.Calls.{isAccepted, Call, step, run}
-use Rattle.sise_layout.proofs.Buffers.{pasted-length}
+use Rattle.sise_layout.specs.Calls.{isAccepted, Call, step, run, writing, textOf}
+use Rattle.sise_layout.proofs.Buffers.{pasted-length, same-text}
+use Rattle.sise_layout.proofs.Written.{writes}
 use Rattle.sise_layout.proofs.Verdicts.{endOf, put}
-use Rattle.sise_tree.specs.Tree.{Node, depth}
-use Rattle.sise_tree.specs.Decision.{decide}
-use Rattle.sise_tree.specs.ParseTree.{longest}
-use Rattle.sise_tree.specs.Answers.{Answer, answered, refusedWith, numberOf}
-use Rattle.sise_tree.specs.SerializeTree.{atomsHold, fits, Writes, refuse, firstOffset, written, isOver, writeNode, writeTree}
+use Rattle.sise_tree.specs.SerializeTree.{fits}
 use Rattle.sise_tree.proofs.CallLaws.{fits-off}
 use Rattle.sise_tree.proofs.Placing.{placed, not-placed, puts-end, puts-place, put-fits, Lands, lands}
 
@@ -45,7 +40,7 @@ module _ (s : Style) (b : List ℕ) (w : Serializer) (c : Call) (k : Lands s (le
     unfolding run
     lands-last = ap (λ (r : Written). run s (pasted b (w .position) (r .bytes)) (r .serializer) cs .last) lands-put
 
-    lands-answers : run s b w (c ∷ cs) .answers ≡ writer.Answer.accepted (w .position + length (k .piece .layout)) ∷ run s now (k .piece .after) cs .answers
+    pub lands-answers : run s b w (c ∷ cs) .answers ≡ writer.Answer.accepted (w .position + length (k .piece .layout)) ∷ run s now (k .piece .after) cs .answers
     unfolding run
     lands-answers = ap (λ (r : Written). r .answer ∷ run s (pasted b (w .position) (r .bytes)) (r .serializer) cs .answers) lands-put
 
@@ -53,7 +48,7 @@ module _ (s : Style) (b : List ℕ) (w : Serializer) (c : Call) (k : Lands s (le
     lands-fits = put-fits s (length b) w c cs (k .piece) lands-put ∙ ap (λ (n : ℕ). fits s n (k .piece .after) cs) (sym now-long)
 
 -- of calls that fit, the first is accepted
-fits-lands : (s : Style) (room : ℕ) (w : Serializer) (c : Call) (cs : List Call) → fits s room w (c ∷ cs) ≡ true → Lands s room w c
+pub fits-lands : (s : Style) (room : ℕ) (w : Serializer) (c : Call) (cs : List Call) → fits s room w (c ∷ cs) ≡ true → Lands s room w c
 unfolding fits
 fits-lands s room w c cs h = lands s room w c (and-first (isAccepted (step s room w c .answer)) _ h)
 
@@ -107,12 +102,12 @@ pub exact-room : (s : Style) (b : List ℕ) (w : Serializer) (c : Call) (cs : Li
 exact-room s b w c cs h room = exact-on s room c cs (exact-from s room cs) b w h
 
 -- the calls leave one record and have the same answers in both buffers
-pub record Alike (s : Style) (w : Serializer) (cs : List Call) (b b′ : List ℕ) : Type 0 where
+pub record RunsAlike (s : Style) (w : Serializer) (cs : List Call) (b b′ : List ℕ) : Type 0 where
   pub last : run s b w cs .last ≡ run s b′ w cs .last
   pub answers : run s b w cs .answers ≡ run s b′ w cs .answers
 
 -- a buffer that holds what the calls write in another is as good as that
-pub alike : (s : Style) (cs : List Call) (w : Serializer) (b b′ : List ℕ) → fits s (length b) w cs ≡ true → run s b w cs .last .position ≤ length b′ → Alike s w cs b b′
+pub alike : (s : Style) (cs : List Call) (w : Serializer) (b b′ : List ℕ) → fits s (length b) w cs ≡ true → run s b w cs .last .position ≤ length b′ → RunsAlike s w cs b b′
 unfolding run
 alike s [] w b b′ h le = record { last = refl; answers = refl }
 alike s (c ∷ cs) w b b′ h le =
@@ -130,7 +125,7 @@ alike s (c ∷ cs) w b b′ h le =
 
 -- the calls fit in a larger buffer too, and in one of 16,777,216 bytes, and there they do the same
 pub larger : (s : Style) (cs : List Call) (w : Serializer) (b b′ : List ℕ) → min (length b) limit ≤ length b′ → fits s (length b) w cs ≡ true
-    → (fits s (length b′) w cs ≡ true) × Alike s w cs b b′
+    → (fits s (length b′) w cs ≡ true) × RunsAlike s w cs b b′
 unfolding fits run
 larger s [] w b b′ le h = (refl, record { last = refl; answers = refl })
 larger s (c ∷ cs) w b b′ le h =
@@ -140,106 +135,32 @@ larger s (c ∷ cs) w b b′ le h =
     let few : n ≤ limit = grows s (c ∷ cs) b w h .below (omega (arith, k .fit)) in
     (exact-room s b w c cs h (length b′) ∙ le-leb n (length b′) (omega arith), alike s (c ∷ cs) w b b′ h (omega arith))
 
--- ---- what is written
+-- ---- the bytes
 
-pub no-answer : {A : Type 0} {n o : ℕ} → refusedWith n ≡ answered o → A
-no-answer {n} {o} e = let z : _≡_ {A = ℕ} 0 1 = cc in absurd (omega arith)
+module _ (s : Style) (room room′ : ℕ) where
+  -- a call that two rooms accept
+  step-alike : (w : Serializer) (c : Call) → isAccepted (step s room w c .answer) ≡ true → isAccepted (step s room′ w c .answer) ≡ true → step s room w c ≡ step s room′ w c
+  step-alike w c h h′ =
+      let k = lands s room w c h in
+      let p = k .piece in
+      let there = puts-place s room′ w (k .sound) (k .puts) in
+      puts-place s room w (k .sound) (k .puts) ∙ placed room w p (k .fit)
+      ∙ split (leb (endOf w p) (min room′ limit))
+      (λ e. sym (there ∙ placed room′ w p (leb-true (endOf w p) (min room′ limit) e)))
+      (λ e. absurd (false≢true (sym (ap (λ (r : Written). isAccepted (r .answer)) (there ∙ not-placed room′ w p (leb-false (endOf w p) (min room′ limit) e))) ∙ h′)))
 
-pub same-number : {n k : ℕ} → refusedWith n ≡ refusedWith k → n ≡ k
-same-number e = ap numberOf e
+  -- and calls
+  bytes-alike : (cs : List Call) (w : Serializer) → fits s room w cs ≡ true → fits s room′ w cs ≡ true → writes s room w cs .text ≡ writes s room′ w cs .text
+  unfolding fits writes
+  bytes-alike [] w h h′ = refl
+  bytes-alike (c ∷ cs) w h h′ =
+      let e = step-alike w c (and-first (isAccepted (step s room w c .answer)) _ h) (and-first (isAccepted (step s room′ w c .answer)) _ h′) in
+      let f = and-second (isAccepted (step s room w c .answer)) _ h in
+      let f′ = and-second (isAccepted (step s room′ w c .answer)) _ h′ in
+      ap (λ (l : List ℕ). step s room w c .bytes ++ l) (bytes-alike cs (step s room w c .serializer) f (rw e f′))
+      ∙ ap (λ (r : Written). r .bytes ++ writes s room′ (r .serializer) cs .text) e
 
--- what d, written in one buffer, tells of d′ in the buffer b′: with room for its bytes record and answer are the same, and else it is refused with 22
-pub record Foretells (w : Serializer) (d d′ : Writes) (b′ : List ℕ) : Type 0 where
-  pub serializer : d .serializer .position ≤ length b′ → d′ .serializer ≡ d .serializer
-  pub answer : d .serializer .position ≤ length b′ → d′ .answer ≡ d .answer
-  pub short : length b′ < d .serializer .position → d′ ≡ refuse 22 b′ w
-
-module _ (s : Style) (b : List ℕ) (w : Serializer) where
-  written-off : (cs : List Call) → fits s (length b) w cs ≡ false → written s b w cs ≡ refuse 22 b w
-  unfolding written
-  written-off cs f = rw f
-
-  abbrev all : List Call → Writes
-  all cs = record { serializer = run s b w cs .last; answer = firstOffset (run s b w cs .answers); buffer = run s b w cs .buffer }
-
-  written-on : (cs : List Call) → fits s (length b) w cs ≡ true → written s b w cs ≡ all cs
-  unfolding written
-  written-on cs f = rw f
-
-  -- calls that fit answer an offset
-  pub on-answer : (c : Call) (cs : List Call) → fits s (length b) w (c ∷ cs) ≡ true → (o : ℕ) × (written s b w (c ∷ cs) .answer ≡ answered o)
-  on-answer c cs f =
-      let k = fits-lands s (length b) w c cs f in
-      (w .position + length (k .piece .layout), ap (λ (x : Writes). x .answer) (written-on (c ∷ cs) f) ∙ ap firstOffset (lands-answers s b w c k cs))
-
-module _ (s : Style) (b b′ : List ℕ) (w : Serializer) where
-  more-foretold : (c : Call) (cs : List Call) → fits s (length b) w (c ∷ cs) ≡ true → Foretells w (written s b w (c ∷ cs)) (written s b′ w (c ∷ cs)) b′
-  more-foretold c cs f =
-      let l = c ∷ cs in
-      let n = run s b w l .last .position in
-      let fit : n ≤ length b′ → written s b′ w l ≡ all s b′ w l = λ le. written-on s b′ w l (exact-room s b w c cs f (length b′) ∙ le-leb n (length b′) le) in
-      rw (written-on s b w l f)
-      (record {
-        serializer = λ le. ap (λ (x : Writes). x .serializer) (fit le) ∙ sym (alike s l w b b′ f le .last);
-        answer = λ le. ap (λ (x : Writes). x .answer) (fit le) ∙ sym (ap firstOffset (alike s l w b b′ f le .answers));
-        short = λ lt. written-off s b′ w l (exact-room s b w c cs f (length b′) ∙ lt-leb n (length b′) lt);
-      })
-
-  -- calls that answer an offset in the buffer b
-  pub written-foretold : (cs : List Call) {o : ℕ} → written s b w cs .answer ≡ answered o → Foretells w (written s b w cs) (written s b′ w cs) b′
-  written-foretold [] h = unfold written fits run in no-answer h
-  written-foretold (c ∷ cs) h =
-      split (fits s (length b) w (c ∷ cs)) (λ f. more-foretold c cs f)
-      (λ f. no-answer (sym (ap (λ (x : Writes). x .answer) (written-off s b w (c ∷ cs) f)) ∙ h))
-
-  -- calls that a buffer of 16,777,216 bytes or more refuses, each buffer refuses
-  pub written-refused : (cs : List Call) {k : ℕ} → limit ≤ length b → written s b w cs .answer ≡ refusedWith k → written s b′ w cs ≡ refuse k b′ w
-  written-refused [] le h = unfold written fits run in ap (λ (n : ℕ). refuse n b′ w) (same-number h)
-  written-refused (c ∷ cs) le h =
-      split (fits s (length b) w (c ∷ cs))
-      (λ f. let (o, e) = on-answer s b w c cs f in no-answer (sym h ∙ e))
-      (λ f.
-      let z = same-number (sym (ap (λ (x : Writes). x .answer) (written-off s b w (c ∷ cs) f)) ∙ h) in
-      let off = split (fits s (length b′) w (c ∷ cs)) (λ g. absurd (false≢true (sym f ∙ larger s (c ∷ cs) w b′ b (omega arith) g .0))) (λ g. g) in
-      written-off s b′ w (c ∷ cs) off ∙ ap (λ (n : ℕ). refuse n b′ w) z)
-
--- ---- a tree
-
--- what a tree call does in each buffer: it is refused before its calls are made, or comes to what they write
-data Comes (s : Style) (w : Serializer) (calls : Node → List Call) (d : List ℕ → Writes) : Type 0 where
-  refused : (k : ℕ) → ((b : List ℕ) → d b ≡ refuse k b w) → Comes s w calls d
-  made : (n : Node) → ((b : List ℕ) → d b ≡ written s b w (calls n)) → Comes s w calls d
-
-module _ (s : Style) (w : Serializer) (text : List ℕ) (calls : Node → List Call) where
-  node-comes : (d : Option Node) → Comes s w calls (λ b. writeNode s b w text calls d)
-  unfolding writeNode
-  node-comes none = refused 15 (λ b. refl)
-  node-comes (some n) =
-      split (atomsHold text n)
-      (λ a.
-      split (isOver (w .phase)) (λ v. refused 19 (λ b. rw (a, v)))
-      (λ v. split (ltb deepest (w .lists + depth n)) (λ t. refused 21 (λ b. rw (a, v, t))) (λ t. made n (λ b. rw (a, v, t)))))
-      (λ a. refused 17 (λ b. rw a))
-
-  tree-comes : (words : List ℕ) → Comes s w calls (λ b. writeTree s b w text words calls)
-  unfolding writeTree
-  tree-comes words =
-      split (ltb longest (length text)) (λ e. refused 13 (λ b. rw e))
-      (λ e. split (isSound w) (λ f. rw (e, f) (node-comes (decide (length text) words))) (λ f. refused 11 (λ b. rw (e, f))))
-
-  foretold-of : (d : List ℕ → Writes) → Comes s w calls d → (b b′ : List ℕ) {o : ℕ} → d b .answer ≡ answered o → Foretells w (d b) (d b′) b′
-  foretold-of d (refused k e) b b′ h = no-answer (sym (ap (λ (x : Writes). x .answer) (e b)) ∙ h)
-  foretold-of d (made n e) b b′ h = rw (e b, e b′) (written-foretold s b b′ w (calls n) (sym (ap (λ (x : Writes). x .answer) (e b)) ∙ h))
-
-  refused-of : (d : List ℕ → Writes) → Comes s w calls d → (b b′ : List ℕ) {k : ℕ} → limit ≤ length b → d b .answer ≡ refusedWith k → d b′ ≡ refuse k b′ w
-  refused-of d (refused n e) b b′ le h = e b′ ∙ ap (λ (m : ℕ). refuse m b′ w) (same-number (sym (ap (λ (x : Writes). x .answer) (e b)) ∙ h))
-  refused-of d (made n e) b b′ le h = e b′ ∙ written-refused s b b′ w (calls n) le (sym (ap (λ (x : Writes). x .answer) (e b)) ∙ h)
-
-  module _ (b words b′ : List ℕ) where
-    -- a tree call that answers an offset in the buffer b
-    pub tree-foretold : {o : ℕ} → writeTree s b w text words calls .answer ≡ answered o → Foretells w (writeTree s b w text words calls) (writeTree s b′ w text words calls) b′
-    tree-foretold h = foretold-of (λ x. writeTree s x w text words calls) (tree-comes words) b b′ h
-
-    -- a tree call that a buffer of 16,777,216 bytes or more refuses, each buffer refuses with the same number
-    pub tree-refused : {k : ℕ} → limit ≤ length b → writeTree s b w text words calls .answer ≡ refusedWith k → writeTree s b′ w text words calls ≡ refuse k b′ w
-    tree-refused le h = refused-of (λ x. writeTree s x w text words calls) (tree-comes words) b b′ le h
+-- a whole text has the same bytes in every buffer that holds it
+pub text-alike : (s : Style) (cs : List Call) (b b′ : List ℕ) → fits s (length b) freshSerializer cs ≡ true → fits s (length b′) freshSerializer cs ≡ true
+    → textOf (writing s b cs) ≡ textOf (writing s b′ cs)
+text-alike s cs b b′ h h′ = same-text s b cs ∙ bytes-alike s (length b) (length b′) cs freshSerializer h h′ ∙ sym (same-text s b′ cs)
