@@ -12,3 +12,7 @@ pub mod MeasuredTurns
 pub mod MeasuredWalk
 pub mod Drawing
 pub mod DrawWalk
+pub mod Placing
+pub mod Rooms
+pub mod TreeRooms
+pub mod OnlyRoom

@@ -1,0 +1,71 @@
+-- A call that may be made puts one piece, in whatever room: it is accepted where the piece's end lies in the room, and else refused with 22.
+-- Assumes nothing.
+use Prim.Native.Nat.{ℕ, _≤_, _<_, min}
+use native.Mathlib.Omega.{arith}
+use mathlib.Core.Path.{_≡_, sym, ap, _∙_}
+use mathlib.Core.Bool.{true, false, _&&_, false≢true}
+use mathlib.Core.List.{List, _∷_}
+use borrow.Author.Tests.{le-leb, lt-leb}
+use Rattle.sise_util.proofs.Ranges.{split}
+use Rattle.sise_serializer.specs.Serializer as writer
+use Rattle.sise_serializer.specs.Serializer.{Style, Piece, Written, limit, isSound, place, firstAtom, firstList, inner, innerAs, close, closeAs, last, putIn, beginIn, endIn, finishIn}
+use Rattle.sise_serializer.specs.declared.serializer.Serializer.{Serializer}
+use Rattle.sise_serializer.proofs.Does.{put-sound, put-in, begin-sound, begin-inner, end-sound, finish-sound}
+use Rattle.sise_layout.specs.Calls.{isAccepted, Call, step}
+use Rattle.sise_layout.proofs.Verdicts.{endOf, put, Puts, atomAlone, atomInside, listFirst, listInside, listClosed, textEnded, Verdict, refuses, puts, verdict}
+use Rattle.sise_tree_writer.specs.SerializeTree.{fits}
+use Rattle.sise_tree_writer.proofs.CallLaws.{unsound}
+
+-- a piece with room, and one without
+module _ (room : ℕ) (w : Serializer) (p : Piece) where
+  pub placed : endOf w p ≤ min room limit → place room w p ≡ put w p
+  unfolding place
+  placed h = rw (le-leb (endOf w p) (min room limit) h)
+
+  pub not-placed : min room limit < endOf w p → place room w p ≡ writer.refuse 22 w
+  unfolding place
+  not-placed h = rw (lt-leb (endOf w p) (min room limit) h)
+
+-- a piece ends where the record behind it is
+pub puts-end : {s : Style} {w : Serializer} {c : Call} {p : Piece} → Puts s w c p → p .after .position ≡ endOf w p
+unfolding firstAtom firstList inner innerAs close closeAs last
+puts-end (atomAlone e f) = omega arith
+puts-end (atomInside e f) = omega arith
+puts-end (listFirst e) = omega arith
+puts-end (listInside e f) = omega arith
+puts-end (listClosed e) = omega arith
+puts-end (textEnded e) = omega arith
+
+module _ (s : Style) (room : ℕ) (w : Serializer) where
+  -- from a sound record
+  pub puts-place : {c : Call} {p : Piece} → isSound w ≡ true → Puts s w c p → step s room w c ≡ place room w p
+  unfolding step putIn beginIn endIn finishIn
+  puts-place h (atomAlone {a = a} {t = t} e f) = put-sound s room w a t h f ∙ put-in s room w a t e
+  puts-place h (atomInside {a = a} {t = t} e f) = put-sound s room w a t h f ∙ put-in s room w a t e
+  puts-place h (listFirst {t = t} e) = begin-sound s room w t h e
+  puts-place h (listInside {t = t} e f) = begin-sound s room w t h e ∙ begin-inner s room w t f
+  puts-place h (listClosed e) = end-sound s room w h e
+  puts-place h (textEnded {wished = wished} e) = finish-sound s room w wished h e
+
+-- a call that puts a piece leaves the fitting to the rest
+pub put-fits : (s : Style) (room : ℕ) (w : Serializer) (c : Call) (cs : List Call) (p : Piece) → step s room w c ≡ put w p → fits s room w (c ∷ cs) ≡ fits s room (p .after) cs
+unfolding fits
+put-fits s room w c cs p e = ap (λ (r : Written). isAccepted (r .answer) && fits s room (r .serializer) cs) e
+
+-- a call that one room accepts
+pub record Lands (s : Style) (room : ℕ) (w : Serializer) (c : Call) : Type 0 where
+  pub piece : Piece
+  pub sound : isSound w ≡ true
+  pub puts : Puts s w c piece
+  pub fit : endOf w piece ≤ min room limit
+
+module _ (s : Style) (room : ℕ) (w : Serializer) (c : Call) where
+  lands-of : (r : Written) → Verdict s room w c r → isSound w ≡ true → isAccepted (r .answer) ≡ true → Lands s room w c
+  lands-of r (refuses n u) h a = absurd (false≢true a)
+  lands-of r (puts p q f) h a = record { piece = p; sound = h; puts = q; fit = f }
+
+  pub lands : isAccepted (step s room w c .answer) ≡ true → Lands s room w c
+  lands a =
+      split (isSound w)
+      (λ h. lands-of (step s room w c) (verdict s room w c) h a)
+      (λ h. absurd (false≢true (sym (ap (λ (r : Written). isAccepted (r .answer)) (unsound s room w c h)) ∙ a)))

@@ -1,0 +1,163 @@
+-- What a tree comes to in one buffer, written or measured, tells of every other: if it is written there and leaves the position n, each buffer of n bytes or
+-- more has the same record, answer and bytes, and each shorter one 22; and what 16,777,216 bytes refuse, every buffer refuses with the same number.
+-- Assumes nothing.
+use Prim.Native.Nat.{ℕ, _+_, _≤_, _<_}
+use native.Mathlib.Omega.{arith}
+use mathlib.Core.Path.{_≡_, refl, sym, ap, _∙_}
+use mathlib.Core.Bool.{true, false, false≢true}
+use mathlib.Core.Option.{Option, none, some}
+use mathlib.Core.List.{List, [], _∷_}
+use lib.Dec.{ltb}
+use lib.ListN.{length, take}
+use borrow.Author.Tests.{le-leb, lt-leb}
+use Rattle.sise_util.proofs.Ranges.{split}
+use Rattle.sise_serializer.specs.Serializer.{Style, limit, deepest, isSound, freshSerializer}
+use Rattle.sise_serializer.specs.declared.serializer.Serializer.{Serializer}
+use Rattle.sise_layout.specs.Calls.{Call, run}
+use Rattle.sise_tree.specs.Tree.{Node, depth}
+use Rattle.sise_tree.specs.Decision.{decide}
+use Rattle.sise_tree.specs.ParseTree.{longest}
+use Rattle.sise_tree.specs.Answers.{Answer, answered, refusedWith, numberOf}
+use Rattle.sise_tree_writer.specs.SerializeTree.{atomsHold, fits, Writes, refuse, firstOffset, written, isOver, writeNode, writeTree}
+use Rattle.sise_tree_writer.proofs.Rooms.{lands-answers, fits-lands, exact-room, alike, larger, text-alike}
+
+pub no-answer : {A : Type 0} {n o : ℕ} → refusedWith n ≡ answered o → A
+no-answer {n} {o} e = let z : _≡_ {A = ℕ} 0 1 = cc in absurd (omega arith)
+
+-- the answer of what is the same
+told : {d d′ : Writes} {a : Answer} → d ≡ d′ → d .answer ≡ a → d′ .answer ≡ a
+told e h = sym (ap (λ (x : Writes). x .answer) e) ∙ h
+
+pub same-number : {n k : ℕ} → refusedWith n ≡ refusedWith k → n ≡ k
+same-number e = ap numberOf e
+
+-- what d, written in one buffer, tells of d′ in the buffer b′: with room for its bytes record and answer are the same, and else it is refused with 22
+pub record Foretells (w : Serializer) (d d′ : Writes) (b′ : List ℕ) : Type 0 where
+  pub serializer : d .serializer .position ≤ length b′ → d′ .serializer ≡ d .serializer
+  pub answer : d .serializer .position ≤ length b′ → d′ .answer ≡ d .answer
+  pub short : length b′ < d .serializer .position → d′ ≡ refuse 22 b′ w
+
+module _ (s : Style) (b : List ℕ) (w : Serializer) where
+  written-off : (cs : List Call) → fits s (length b) w cs ≡ false → written s b w cs ≡ refuse 22 b w
+  unfolding written
+  written-off cs f = rw f
+
+  abbrev all : List Call → Writes
+  all cs = record { serializer = run s b w cs .last; answer = firstOffset (run s b w cs .answers); buffer = run s b w cs .buffer }
+
+  written-on : (cs : List Call) → fits s (length b) w cs ≡ true → written s b w cs ≡ all cs
+  unfolding written
+  written-on cs f = rw f
+
+  -- calls that fit answer an offset
+  pub on-answer : (c : Call) (cs : List Call) → fits s (length b) w (c ∷ cs) ≡ true → (o : ℕ) × (written s b w (c ∷ cs) .answer ≡ answered o)
+  on-answer c cs f =
+      let k = fits-lands s (length b) w c cs f in
+      (w .position + length (k .piece .layout), ap (λ (x : Writes). x .answer) (written-on (c ∷ cs) f) ∙ ap firstOffset (lands-answers s b w c k cs))
+
+module _ (s : Style) (b b′ : List ℕ) (w : Serializer) where
+  more-foretold : (c : Call) (cs : List Call) → fits s (length b) w (c ∷ cs) ≡ true → Foretells w (written s b w (c ∷ cs)) (written s b′ w (c ∷ cs)) b′
+  more-foretold c cs f =
+      let l = c ∷ cs in
+      let n = run s b w l .last .position in
+      let fit : n ≤ length b′ → written s b′ w l ≡ all s b′ w l = λ le. written-on s b′ w l (exact-room s b w c cs f (length b′) ∙ le-leb n (length b′) le) in
+      rw (written-on s b w l f)
+      (record {
+        serializer = λ le. ap (λ (x : Writes). x .serializer) (fit le) ∙ sym (alike s l w b b′ f le .last);
+        answer = λ le. ap (λ (x : Writes). x .answer) (fit le) ∙ sym (ap firstOffset (alike s l w b b′ f le .answers));
+        short = λ lt. written-off s b′ w l (exact-room s b w c cs f (length b′) ∙ lt-leb n (length b′) lt);
+      })
+
+  -- calls that answer an offset in the buffer b
+  pub written-foretold : (cs : List Call) {o : ℕ} → written s b w cs .answer ≡ answered o → Foretells w (written s b w cs) (written s b′ w cs) b′
+  written-foretold [] h = unfold written fits run in no-answer h
+  written-foretold (c ∷ cs) h =
+      split (fits s (length b) w (c ∷ cs)) (λ f. more-foretold c cs f)
+      (λ f. no-answer (told (written-off s b w (c ∷ cs) f) h))
+
+  -- calls that a buffer of 16,777,216 bytes or more refuses, each buffer refuses
+  pub written-refused : (cs : List Call) {k : ℕ} → limit ≤ length b → written s b w cs .answer ≡ refusedWith k → written s b′ w cs ≡ refuse k b′ w
+  written-refused [] le h = unfold written fits run in ap (λ (n : ℕ). refuse n b′ w) (same-number h)
+  written-refused (c ∷ cs) le h =
+      split (fits s (length b) w (c ∷ cs))
+      (λ f. let (o, e) = on-answer s b w c cs f in no-answer (sym h ∙ e))
+      (λ f.
+      let z = same-number (told (written-off s b w (c ∷ cs) f) h) in
+      let off = split (fits s (length b′) w (c ∷ cs)) (λ g. absurd (false≢true (sym f ∙ larger s (c ∷ cs) w b′ b (omega arith) g .0))) (λ g. g) in
+      written-off s b′ w (c ∷ cs) off ∙ ap (λ (n : ℕ). refuse n b′ w) z)
+
+-- the bytes up to the position
+abbrev pub bytesIn : Writes → List ℕ
+bytesIn d = take (d .serializer .position) (d .buffer)
+
+-- from a fresh record they are the same
+written-bytes : (s : Style) (b b′ : List ℕ) (cs : List Call) {o : ℕ} → written s b freshSerializer cs .answer ≡ answered o
+    → written s b freshSerializer cs .serializer .position ≤ length b′ → bytesIn (written s b freshSerializer cs) ≡ bytesIn (written s b′ freshSerializer cs)
+written-bytes s b b′ [] h le = unfold written fits run in no-answer h
+written-bytes s b b′ (c ∷ cs) h le =
+    let w = freshSerializer in
+    let l = c ∷ cs in
+    split (fits s (length b) w l)
+    (λ f.
+    let on = written-on s b w l f in
+    let n = run s b w l .last .position in
+    let f′ = exact-room s b w c cs f (length b′) ∙ le-leb n (length b′) (rw on at le) in
+    ap bytesIn on ∙ text-alike s l b b′ f f′ ∙ sym (ap bytesIn (written-on s b′ w l f′)))
+    (λ f. no-answer (told (written-off s b w l f) h))
+
+-- ---- a tree
+
+-- what a tree call does in each buffer: it is refused before its calls are made, or comes to what they write
+data Comes (s : Style) (w : Serializer) (calls : Node → List Call) (d : List ℕ → Writes) : Type 0 where
+  refused : (k : ℕ) → ((b : List ℕ) → d b ≡ refuse k b w) → Comes s w calls d
+  made : (n : Node) → ((b : List ℕ) → d b ≡ written s b w (calls n)) → Comes s w calls d
+
+module _ (s : Style) (w : Serializer) (text : List ℕ) (calls : Node → List Call) where
+  node-comes : (d : Option Node) → Comes s w calls (λ b. writeNode s b w text calls d)
+  unfolding writeNode
+  node-comes none = refused 15 (λ b. refl)
+  node-comes (some n) =
+      split (atomsHold text n)
+      (λ a.
+      split (isOver (w .phase)) (λ v. refused 19 (λ b. rw (a, v)))
+      (λ v. split (ltb deepest (w .lists + depth n)) (λ t. refused 21 (λ b. rw (a, v, t))) (λ t. made n (λ b. rw (a, v, t)))))
+      (λ a. refused 17 (λ b. rw a))
+
+  tree-comes : (words : List ℕ) → Comes s w calls (λ b. writeTree s b w text words calls)
+  unfolding writeTree
+  tree-comes words =
+      split (ltb longest (length text)) (λ e. refused 13 (λ b. rw e))
+      (λ e. split (isSound w) (λ f. rw (e, f) (node-comes (decide (length text) words))) (λ f. refused 11 (λ b. rw (e, f))))
+
+  foretold-of : (d : List ℕ → Writes) → Comes s w calls d → (b b′ : List ℕ) {o : ℕ} → d b .answer ≡ answered o → Foretells w (d b) (d b′) b′
+  foretold-of d (refused k e) b b′ h = no-answer (told (e b) h)
+  foretold-of d (made n e) b b′ h = rw (e b, e b′) (written-foretold s b b′ w (calls n) (told (e b) h))
+
+  refused-of : (d : List ℕ → Writes) → Comes s w calls d → (b b′ : List ℕ) {k : ℕ} → limit ≤ length b → d b .answer ≡ refusedWith k → d b′ ≡ refuse k b′ w
+  refused-of d (refused n e) b b′ le h = e b′ ∙ ap (λ (m : ℕ). refuse m b′ w) (same-number (told (e b) h))
+  refused-of d (made n e) b b′ le h = e b′ ∙ written-refused s b b′ w (calls n) le (told (e b) h)
+
+  module _ (b words b′ : List ℕ) where
+    -- a tree call that answers an offset in the buffer b
+    pub tree-foretold : {o : ℕ} → writeTree s b w text words calls .answer ≡ answered o → Foretells w (writeTree s b w text words calls) (writeTree s b′ w text words calls) b′
+    tree-foretold h = foretold-of (λ x. writeTree s x w text words calls) (tree-comes words) b b′ h
+
+    -- a tree call that a buffer of 16,777,216 bytes or more refuses, each buffer refuses with the same number
+    pub tree-refused : {k : ℕ} → limit ≤ length b → writeTree s b w text words calls .answer ≡ refusedWith k → writeTree s b′ w text words calls ≡ refuse k b′ w
+    tree-refused le h = refused-of (λ x. writeTree s x w text words calls) (tree-comes words) b b′ le h
+
+-- and in every buffer that holds it a whole text has the same bytes
+module _ (s : Style) (text : List ℕ) (calls : Node → List Call) (b words b′ : List ℕ) where
+  abbrev whole : List ℕ → Writes
+  whole x = writeTree s x freshSerializer text words calls
+
+  bytes-of : Comes s freshSerializer calls whole → {o : ℕ} → whole b .answer ≡ answered o → whole b .serializer .position ≤ length b′ → bytesIn (whole b) ≡ bytesIn (whole b′)
+  bytes-of (refused k e) h le = no-answer (told (e b) h)
+  bytes-of (made n e) h le =
+      ap bytesIn (e b)
+      ∙ written-bytes s b b′ (calls n) (told (e b) h) (rw (e b) at le)
+      ∙ sym (ap bytesIn (e b′))
+
+  pub tree-bytes : {o : ℕ} → writeTree s b freshSerializer text words calls .answer ≡ answered o → writeTree s b freshSerializer text words calls .serializer .position ≤ length b′
+      → bytesIn (writeTree s b freshSerializer text words calls) ≡ bytesIn (writeTree s b′ freshSerializer text words calls)
+  tree-bytes h le = bytes-of (tree-comes s freshSerializer text calls words) h le
