@@ -1,35 +1,37 @@
--- `sise_util::is_atom_byte` meets its contract: each bit of the two masks is the definition's answer, which is computed at every byte below 128.
+-- Each bit of the masks is the definition's answer, which is computed at every byte.
 -- Assumes nothing.
-use mathlib.Core.Path.{_≡_, sym}
-use mathlib.Core.Bool.{Bool, true, false, Bool·beq}
-use Prim.Native.Nat.{ℕ, _+_, _-_, _/_, _%_, _^_, _≤_, _<_, zero-le}
+use Prim.Native.Nat.{ℕ, _/_, _%_, _^_, _<_, zero-le}
 use native.Mathlib.Omega.{arith}
-use lib.Dec.{T, eqb}
+use mathlib.Core.Path.{_≡_, ap, _∙_}
+use mathlib.Core.Bool.{Bool, Bool·beq}
+use lib.Dec.{eqb}
 use borrow.Author.Needs.{needs}
 use Rattle.sise_util.specs.Chars.{isAtomChr}
-use Rattle.sise_util.proofs.Ranges.{allFrom, ranged, same-bool}
-use Rattle.sise_util.proofs.ClassLaws.{no-atom-chr}
+use Rattle.sise_util.specs.Parts.{maskOf}
+use Rattle.sise_util.proofs.Ranges.{ranged, same-bool}
 use Rattle.sise_util.proofs.util.is_atom_byte.Statement.{statement}
 use Rattle.sise_util.proofs.util.is_atom_byte.Tie as tie
 
--- f is the definition's test at the 64 bytes from lo on
-same : (f : ℕ → Bool) (lo : ℕ) → T (allFrom (λ b. Bool·beq (isAtomChr b) (f b)) lo 64) → {b : ℕ} → lo ≤ b → b < lo + 64 → f b ≡ isAtomChr b
-same f lo t {b} h k = same-bool (isAtomChr b) (f b) (ranged (λ b. Bool·beq (isAtomChr b) (f b)) lo 64 t b h k)
+-- the bit of b in the mask m
+abbrev bit : ℕ → ℕ → Bool
+bit m b = eqb (m / 2 ^ (b % 64) % 2) 1
 
-low : ℕ → Bool
-low b = eqb (0xF7FFEC7A00000000 / 2 ^ b % 2) 1
+same : (b : ℕ) → b < 256 → bit (maskOf b) b ≡ isAtomChr b
+same b h = same-bool (isAtomChr b) (bit (maskOf b) b) (ranged (λ b. Bool·beq (isAtomChr b) (bit (maskOf b) b)) 0 256 (unfold isAtomChr maskOf in tt) b zero-le (omega arith))
 
-high : ℕ → Bool
-high b = eqb (0x47FFFFFE87FFFFFF / 2 ^ (b - 64) % 2) 1
+mask-of-requires : tie.Need-mask-of-requires
+mask-of-requires c κs = search needs
+
+cast-result : tie.Need-cast-result
+cast-result c = search needs
+
+shr-result : tie.Need-shr-result
+shr-result c = search needs
+
+returns : tie.Need-returns
+returns c =
+    let b = c .before .args .byte in
+    ap (λ (m : ℕ). bit m b) (c .mask-of .ensures) ∙ same b (omega arith)
 
 pub is-atom-byte-spec : {M : Type 1} → statement M
-unfolding low high
-is-atom-byte-spec =
-    tie.close
-    (tie.spec
-    (λ c. search needs)
-    (λ c. search needs)
-    (λ c. search needs)
-    (λ c. same low 0 (unfold isAtomChr low in tt) {b = c .before .args .byte} zero-le (omega arith))
-    (λ c. same high 64 (unfold isAtomChr high in tt) {b = c .before .before .args .byte} (omega arith) (omega arith))
-    (λ c. sym (no-atom-chr _ (omega arith))))
+is-atom-byte-spec = tie.close (tie.spec mask-of-requires cast-result shr-result returns)
