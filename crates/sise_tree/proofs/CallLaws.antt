@@ -16,8 +16,8 @@ use Rattle.sise_util.proofs.Ranges.{split, and-first, and-second}
 use Rattle.sise_parser.specs.Reader.{partOf}
 use Rattle.sise_serializer.specs.Bytes.{pasted}
 use Rattle.sise_serializer.specs.Serializer as writer
-use Rattle.sise_serializer.specs.Serializer.{Style, Piece, Written, answerAs, numberOf, deepest, listsFit, isSound, firstAtom, firstList, inner, innerAs, close, closeAs, last, putAtom, finishWriting}
-use Rattle.sise_serializer.specs.Steps.{joined, Steps, putToken}
+use Rattle.sise_serializer.specs.Serializer.{Style, Piece, Written, answerAs, numberOf, deepest, listsFit, isSound, firstAtom, firstList, inner, innerAs, close, closeAs, last, finishWriting}
+use Rattle.sise_serializer.specs.Steps.{joined, Steps}
 use Rattle.sise_serializer.specs.declared.steps.Progress.{Progress}
 use Rattle.sise_serializer.specs.declared.steps.Step.{Step}
 use Rattle.sise_serializer.specs.declared.serializer.Phase.{Phase}
@@ -47,11 +47,6 @@ checked-atom text p m h =
     (λ e.
     let z : m ≡ 0 = omega (arith, leb-false (p + m) (length text) e, length-drop p text) in
     absurd (false≢true (ap (λ (k : ℕ). isAtom (take k (drop p text))) (sym z) ∙ and-second (leb m (length (drop p text))) _ h)))
-
--- putting it is putting an atom
-pub token-is : (s : Style) (room : ℕ) (w : Serializer) (x : List ℕ) (t : ℕ) → isAtom x ≡ true → putToken s room w x t ≡ putAtom s room w x t
-unfolding putToken putAtom
-token-is s room w x t h = rw h
 
 -- the call of node i
 module _ (text words : List ℕ) (a t i : ℕ) where
