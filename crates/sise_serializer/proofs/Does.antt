@@ -172,57 +172,37 @@ last-after l p flags wished x y = rw (x, y)
 
 -- ---- the calls, by their tests and the phase
 
--- an item's call: an atom's or a list's
-module _ (s : Style) (room : ℕ) (w : Serializer) (a : List ℕ) (t : ℕ) where
-  pub item-unsound : (isList : Bool) → isSound w ≡ false → putItem s room w a isList t ≡ refuse 11 w
-  unfolding putItem putAtom beginList
-  item-unsound true e = rw e
-  item-unsound false e = rw e
-
-  module _ (e : isSound w ≡ true) where
-    pub item-no-atom : (isList : Bool) → (isList || isAtom a) ≡ false → putItem s room w a isList t ≡ refuse 17 w
-    unfolding putItem putAtom
-    item-no-atom true f = absurd (false≢true (sym f))
-    item-no-atom false f = rw (e, f)
-
-    -- by the phase, in which a list is begun or an atom put
-    abbrev itemIn : Phase → Bool → Written
-    itemIn p isList = cond isList (beginIn p s room w t) (putIn p s room w a t)
-
-    pub item-in : (isList : Bool) {p : Phase} → (isList || isAtom a) ≡ true → w .phase ≡ p → putItem s room w a isList t ≡ itemIn p isList
-    unfolding putItem putAtom beginList
-    item-in true f h = rw e (ap (λ (q : Phase). beginIn q s room w t) h)
-    item-in false f h = rw (e, f) (ap (λ (q : Phase). putIn q s room w a t) h)
-
-    module _ (isList : Bool) (f : (isList || isAtom a) ≡ true) where
-      pub item-first : w .phase ≡ Beginning → putItem s room w a isList t ≡ place room w (firstItem w a isList)
-      unfolding beginIn putIn
-      item-first h = item-in isList f h ∙ split isList (λ k. rw k) (λ k. rw k)
-
-      pub item-inner : w .phase ≡ Writing → (isList ≡ true → w .lists < deepest) → putItem s room w a isList t ≡ place room w (inner s w (tokenOf isList a) isList t)
-      unfolding beginIn putIn
-      item-inner h g = item-in isList f h ∙ split isList (λ k. let l = g k in rw (k, lt-ltb (w .lists) deepest l)) (λ k. rw k)
-
-      pub item-too-deep : w .phase ≡ Writing → isList ≡ true → deepest ≤ w .lists → putItem s room w a isList t ≡ refuse 21 w
-      unfolding beginIn
-      item-too-deep h k g = item-in isList f h ∙ rw (k, le-ltb (w .lists) deepest g)
-
-      pub item-finished : w .phase ≡ Finished → putItem s room w a isList t ≡ refuse 19 w
-      unfolding beginIn putIn
-      item-finished h = item-in isList f h ∙ split isList (λ k. rw k) (λ k. rw k)
-
-      pub item-done : w .phase ≡ Done → putItem s room w a isList t ≡ refuse 19 w
-      unfolding beginIn putIn
-      item-done h = item-in isList f h ∙ split isList (λ k. rw k) (λ k. rw k)
-
 module _ (s : Style) (room : ℕ) (w : Serializer) where
   pub put-unsound : (a : List ℕ) (t : ℕ) → isSound w ≡ false → putAtom s room w a t ≡ refuse 11 w
-  unfolding putItem
-  put-unsound a t e = item-unsound s room w a t false e
+  unfolding putAtom
+  put-unsound a t e = rw e
+
+  pub put-no-atom : (a : List ℕ) (t : ℕ) → isSound w ≡ true → isAtom a ≡ false → putAtom s room w a t ≡ refuse 17 w
+  unfolding putAtom
+  put-no-atom a t e f = rw (e, f)
+
+  pub put-sound : (a : List ℕ) (t : ℕ) → isSound w ≡ true → isAtom a ≡ true → putAtom s room w a t ≡ putIn (w .phase) s room w a t
+  unfolding putAtom
+  put-sound a t e f = rw (e, f)
+
+  pub put-in : (a : List ℕ) (t : ℕ) {p : Phase} → w .phase ≡ p → putIn (w .phase) s room w a t ≡ putIn p s room w a t
+  put-in a t h = ap (λ (q : Phase). putIn q s room w a t) h
 
   pub begin-unsound : (t : ℕ) → isSound w ≡ false → beginList s room w t ≡ refuse 11 w
-  unfolding putItem
-  begin-unsound t e = item-unsound s room w [] t true e
+  unfolding beginList
+  begin-unsound t e = rw e
+
+  pub begin-sound : (t : ℕ) {p : Phase} → isSound w ≡ true → w .phase ≡ p → beginList s room w t ≡ beginIn p s room w t
+  unfolding beginList
+  begin-sound t e h = rw e (ap (λ (q : Phase). beginIn q s room w t) h)
+
+  pub begin-inner : (t : ℕ) → w .lists < deepest → beginIn Writing s room w t ≡ place room w (inner s w (40 ∷ []) true t)
+  unfolding beginIn
+  begin-inner t h = rw (lt-ltb (w .lists) deepest h)
+
+  pub begin-too-deep : (t : ℕ) → deepest ≤ w .lists → beginIn Writing s room w t ≡ refuse 21 w
+  unfolding beginIn
+  begin-too-deep t h = rw (le-ltb (w .lists) deepest h)
 
   pub end-unsound : isSound w ≡ false → endList s room w ≡ refuse 11 w
   unfolding endList
@@ -239,3 +219,47 @@ module _ (s : Style) (room : ℕ) (w : Serializer) where
   pub finish-sound : (wished : Bool) {p : Phase} → isSound w ≡ true → w .phase ≡ p → finishWriting s room w wished ≡ finishIn p s room w wished
   unfolding finishWriting
   finish-sound wished e h = rw e (ap (λ (q : Phase). finishIn q s room w wished) h)
+
+-- an item's call: an atom's or a list's
+module _ (s : Style) (room : ℕ) (w : Serializer) (a : List ℕ) (t : ℕ) where
+  pub item-unsound : (isList : Bool) → isSound w ≡ false → putItem s room w a isList t ≡ refuse 11 w
+  unfolding putItem
+  item-unsound true e = begin-unsound s room w t e
+  item-unsound false e = put-unsound s room w a t e
+
+  module _ (e : isSound w ≡ true) where
+    pub item-no-atom : (isList : Bool) → (isList || isAtom a) ≡ false → putItem s room w a isList t ≡ refuse 17 w
+    unfolding putItem
+    item-no-atom true f = absurd (false≢true (sym f))
+    item-no-atom false f = put-no-atom s room w a t e f
+
+    -- by the phase, in which a list is begun or an atom put
+    item-in : (isList : Bool) {p : Phase} → (isList || isAtom a) ≡ true → w .phase ≡ p → putItem s room w a isList t ≡ cond isList (beginIn p s room w t) (putIn p s room w a t)
+    unfolding putItem
+    item-in true f h = begin-sound s room w t e h
+    item-in false f h = put-sound s room w a t e f ∙ put-in s room w a t h
+
+    pub item-first : (isList : Bool) → (isList || isAtom a) ≡ true → w .phase ≡ Beginning → putItem s room w a isList t ≡ place room w (firstItem w a isList)
+    unfolding beginIn putIn
+    item-first true f h = item-in true f h
+    item-first false f h = item-in false f h
+
+    pub item-inner : (isList : Bool) → (isList || isAtom a) ≡ true → w .phase ≡ Writing → (isList ≡ true → w .lists < deepest)
+        → putItem s room w a isList t ≡ place room w (inner s w (tokenOf isList a) isList t)
+    unfolding putIn
+    item-inner true f h g = item-in true f h ∙ begin-inner s room w t (g refl)
+    item-inner false f h g = item-in false f h
+
+    pub item-too-deep : (isList : Bool) → (isList || isAtom a) ≡ true → w .phase ≡ Writing → isList ≡ true → deepest ≤ w .lists → putItem s room w a isList t ≡ refuse 21 w
+    item-too-deep true f h k g = item-in true f h ∙ begin-too-deep s room w t g
+    item-too-deep false f h k g = absurd (false≢true k)
+
+    pub item-finished : (isList : Bool) → (isList || isAtom a) ≡ true → w .phase ≡ Finished → putItem s room w a isList t ≡ refuse 19 w
+    unfolding beginIn putIn
+    item-finished true f h = item-in true f h
+    item-finished false f h = item-in false f h
+
+    pub item-done : (isList : Bool) → (isList || isAtom a) ≡ true → w .phase ≡ Done → putItem s room w a isList t ≡ refuse 19 w
+    unfolding beginIn putIn
+    item-done true f h = item-in true f h
+    item-done false f h = item-in false f h

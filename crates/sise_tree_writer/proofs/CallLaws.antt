@@ -16,8 +16,8 @@ use Rattle.sise_util.proofs.Ranges.{split, and-first, and-second}
 use Rattle.sise_parser.specs.Reader.{partOf}
 use Rattle.sise_serializer.specs.Bytes.{pasted}
 use Rattle.sise_serializer.specs.Serializer as writer
-use Rattle.sise_serializer.specs.Serializer.{Style, Piece, Written, answerAs, numberOf, deepest, listsFit, isSound, firstAtom, firstList, inner, innerAs, close, closeAs, last, putAtom, finishWriting}
-use Rattle.sise_serializer.specs.Steps.{joined, Steps, putToken}
+use Rattle.sise_serializer.specs.Serializer.{Style, Piece, Written, answerAs, numberOf, deepest, listsFit, isSound, firstAtom, firstList, inner, innerAs, close, closeAs, last, finishWriting}
+use Rattle.sise_serializer.specs.Steps.{joined, Steps}
 use Rattle.sise_serializer.specs.declared.steps.Progress.{Progress}
 use Rattle.sise_serializer.specs.declared.steps.Step.{Step}
 use Rattle.sise_serializer.specs.declared.serializer.Phase.{Phase}
@@ -47,11 +47,6 @@ checked-atom text p m h =
     (λ e.
     let z : m ≡ 0 = omega (arith, leb-false (p + m) (length text) e, length-drop p text) in
     absurd (false≢true (ap (λ (k : ℕ). isAtom (take k (drop p text))) (sym z) ∙ and-second (leb m (length (drop p text))) _ h)))
-
--- putting it is putting an atom
-pub token-is : (s : Style) (room : ℕ) (w : Serializer) (x : List ℕ) (t : ℕ) → isAtom x ≡ true → putToken s room w x t ≡ putAtom s room w x t
-unfolding putToken putAtom
-token-is s room w x t h = rw h
 
 -- the call of node i
 module _ (text words : List ℕ) (a t i : ℕ) where
@@ -146,21 +141,21 @@ run-last s w (c ∷ cs) b b′ h =
 -- ---- what is left of the calls
 
 -- the calls cs, from the record w and the buffer b, do as the whole, cs₀ from w₀ and b₀, does
-pub record Same (s : Style) (commit : Bool) (b₀ : List ℕ) (w₀ : Serializer) (cs₀ : List Call) (b : List ℕ) (w : Serializer) (cs : List Call) : Type 0 where
+pub record Same (s : Style) (draws : Bool) (b₀ : List ℕ) (w₀ : Serializer) (cs₀ : List Call) (b : List ℕ) (w : Serializer) (cs : List Call) : Type 0 where
   pub room : length b ≡ length b₀
   pub fit : fits s (length b₀) w cs ≡ fits s (length b₀) w₀ cs₀
   pub last : run s b w cs .last ≡ run s b₀ w₀ cs₀ .last
-  pub buffer : commit ≡ true → run s b w cs .buffer ≡ run s b₀ w₀ cs₀ .buffer
-  pub kept : commit ≡ false → b ≡ b₀
+  pub buffer : draws ≡ true → run s b w cs .buffer ≡ run s b₀ w₀ cs₀ .buffer
+  pub kept : draws ≡ false → b ≡ b₀
 
-pub same-start : (s : Style) (commit : Bool) (b : List ℕ) (w : Serializer) (cs : List Call) → Same s commit b w cs b w cs
-same-start s commit b w cs = record { room = refl; fit = refl; last = refl; buffer = λ e. refl; kept = λ e. refl }
+pub same-start : (s : Style) (draws : Bool) (b : List ℕ) (w : Serializer) (cs : List Call) → Same s draws b w cs b w cs
+same-start s draws b w cs = record { room = refl; fit = refl; last = refl; buffer = λ e. refl; kept = λ e. refl }
 
-module _ {s : Style} {commit : Bool} {b₀ : List ℕ} {w₀ : Serializer} {cs₀ : List Call} {b : List ℕ} {w : Serializer} {c : Call} {cs : List Call}
-    (h : Same s commit b₀ w₀ cs₀ b w (c ∷ cs)) {v : Serializer} {now : List ℕ}
-    (does : v ≡ step s (length b) w c .serializer) (writes : now ≡ cond commit (pasted b (w .position) (step s (length b) w c .bytes)) b) where
+module _ {s : Style} {draws : Bool} {b₀ : List ℕ} {w₀ : Serializer} {cs₀ : List Call} {b : List ℕ} {w : Serializer} {c : Call} {cs : List Call}
+    (h : Same s draws b₀ w₀ cs₀ b w (c ∷ cs)) {v : Serializer} {now : List ℕ}
+    (does : v ≡ step s (length b) w c .serializer) (writes : now ≡ cond draws (pasted b (w .position) (step s (length b) w c .bytes)) b) where
   -- one call more
-  pub same-on : {o : ℕ} → step s (length b) w c .answer ≡ writer.Answer.accepted o → length now ≡ length b → Same s commit b₀ w₀ cs₀ now v cs
+  pub same-on : {o : ℕ} → step s (length b) w c .answer ≡ writer.Answer.accepted o → length now ≡ length b → Same s draws b₀ w₀ cs₀ now v cs
   unfolding run
   same-on {o} e keeps = record {
     room = keeps ∙ h .room;

@@ -7,36 +7,36 @@ use mathlib.Core.Bool.{Bool, true, false, _||_, cond, false≢true}
 use mathlib.Core.Option.{some, Option·some-injective}
 use mathlib.Core.List.{List, [], _∷_, append-nil}
 use lib.Dec.{ltb, eqb}
-use lib.ListN.{length, getD}
-use lib.Seq.{getD-set-same, getD-set-other}
-use borrow.Author.Tests.{lt-ltb, eqb-true, eqb-false, ne-eqb, leb-true}
-use Rattle.sise_util.proofs.Ranges.{split, and-first, and-second}
+use lib.ListN.{length}
+use borrow.Author.Tests.{lt-ltb, eqb-true, eqb-false, ne-eqb}
+use Rattle.sise_util.proofs.Ranges.{split, and-first}
 use Rattle.sise_parser.specs.Reader.{partOf}
 use Rattle.sise_serializer.specs.Bytes.{pasted}
 use Rattle.sise_serializer.specs.Serializer as writer
-use Rattle.sise_serializer.specs.Serializer.{Style, laid, inner, innerAs, close, closeAs, last, firstAtom, firstList, phaseAfter, Piece, Written, answerAs, deepest, limit, listsFit, isSound}
-use Rattle.sise_serializer.specs.Steps.{joined, Steps}
+use Rattle.sise_serializer.specs.Serializer.{Style, laid, inner, innerAs, close, closeAs, last, firstAtom, firstList, phaseAfter, Piece, Written, deepest, limit, isSound}
+use Rattle.sise_serializer.specs.Steps.{joined}
 use Rattle.sise_serializer.specs.declared.serializer.Phase.{Phase}
-use Rattle.sise_serializer.specs.declared.serializer.Phase.the-variants.{Beginning, Writing, Finished}
+use Rattle.sise_serializer.specs.declared.serializer.Phase.the-variants.{Beginning, Writing, Finished, Done}
 use Rattle.sise_serializer.specs.declared.serializer.Serializer.{Serializer}
 use Rattle.sise_serializer.specs.declared.serializer.Put.the-variants.{At}
 use Rattle.sise_serializer.specs.declared.steps.Progress.{Progress}
 use Rattle.sise_serializer.specs.declared.steps.Step.{Step}
 use Rattle.sise_serializer.proofs.Does.{put-unsound, begin-unsound, end-unsound, finish-unsound}
-use Rattle.sise_serializer.proofs.Sound.{sound}
+use Rattle.sise_serializer.proofs.Sound.{sound, writing-lists}
 use Rattle.sise_layout.specs.Calls.{largest, isAccepted, Call, putAtomCall, beginListCall, endListCall, finishCall, step, run}
 use Rattle.sise_layout.proofs.Verdicts.{endOf, put, Puts, atomAlone, atomInside, listFirst, listInside, listClosed, textEnded, Verdict, refuses, puts, verdict}
-use Rattle.sise_tree.specs.Tree.{Node, atom, list, empty, _then_, sizes, kind, first, second, span}
-use Rattle.sise_tree.specs.Decision.{decide, isSome}
+use Rattle.sise_tree.specs.Tree.{Node, atom, list, kind, first, second, span}
+use Rattle.sise_tree.specs.Decision.{decide}
 use Rattle.sise_tree_writer.specs.SerializeTree.{nodeCalls, fits}
-use Rattle.sise_tree_writer.specs.Writing.{lastCalls, textCalls, callAt, turnCall, Ready, closesAt, Passable, Passed, Checked}
-use Rattle.sise_tree_writer.specs.Drawing.{penned, opensAt, tokenAt, leadAt, turnPen, turnFlags, Drawable, Drawn}
+use Rattle.sise_tree_writer.specs.Writing.{lastCalls, textCalls, callAt, turnCall, closesAt, Passable, Passed, Checked}
+use Rattle.sise_tree_writer.specs.Drawing.{penned, opensAt, tokenAt, leadAt, turnPen, turnFlags, Drawable, Drawn, isFirst, penOf, firstPen, firstFlags, FirstFits, Begins}
 use Rattle.sise_tree_writer.specs.declared.serialize.Place.{Place}
+use Rattle.sise_tree_writer.specs.declared.write.Begun.{Begun}
 use Rattle.sise_tree_writer.specs.declared.write.Pen.{Pen}
 use Rattle.sise_tree.proofs.LocalLaws.{held}
-use Rattle.sise_tree_writer.proofs.Walk.{Rest, atom-here, list-here, root-rest, walk-ended, closing, opening, passing, pending}
+use Rattle.sise_tree_writer.proofs.Walk.{pending}
 use Rattle.sise_tree_writer.proofs.CallLaws.{unsound, call-list, call-atom, same-on}
-use Rattle.sise_tree_writer.proofs.WalkCalls.{Left, left-start, left-ready, turn-passable, turn-less, turn-on, turn-due}
+use Rattle.sise_tree_writer.proofs.WalkCalls.{Makes, Left, left-start, goes-more, left-ready, turn-passable, turn-less, turn-on, turn-due, last-due}
 
 -- ---- accepted calls
 
@@ -83,27 +83,46 @@ some-open : (n : ℕ) → 0 < n → phaseAfter n ≡ Writing
 unfolding phaseAfter
 some-open n h = rw (ne-eqb n 0 (λ z. absurd (omega arith)))
 
+open-some : (n : ℕ) → phaseAfter n ≡ Writing → 0 < n
+unfolding phaseAfter
+open-some n e =
+    split (eqb n 0)
+    (λ k. let z : Finished ≡ Writing = rw k at e in let y : _≡_ {A = ℕ} 0 1 = cc in absurd (omega arith))
+    (λ k. omega (arith, eqb-false n 0 k))
+
 abbrev pieceOf : Style → Serializer → Call → Piece
 pieceOf s w (putAtomCall a t) = inner s w a false t
 pieceOf s w (beginListCall t) = inner s w (40 ∷ []) true t
 pieceOf s w endListCall = close s w
 pieceOf s w (finishCall wished) = last s w wished
 
--- a list is not the 201st open
-abbrev Deeper : Serializer → Call → Type 0
-Deeper w (putAtomCall a t) = Unit {0}
-Deeper w (beginListCall t) = w .lists < deepest
-Deeper w endListCall = Unit {0}
-Deeper w (finishCall wished) = Unit {0}
+-- it is made in a list, and a new list is not the 201st open
+abbrev Inside : Serializer → Call → Type 0
+Inside w (putAtomCall a t) = w .phase ≡ Writing
+Inside w (beginListCall t) = (w .phase ≡ Writing) × (w .lists < deepest)
+Inside w endListCall = w .phase ≡ Writing
+Inside w (finishCall wished) = Unit {0}
 
 module _ (s : Style) (w : Serializer) (begun : w .phase ≡ Beginning → ⊥) where
-  piece-is : (c : Call) (p : Piece) → Puts s w c p → (p ≡ pieceOf s w c) × Deeper w c
+  piece-is : (c : Call) (p : Piece) → Puts s w c p → (p ≡ pieceOf s w c) × Inside w c
   piece-is c p (atomAlone e f) = absurd (begun e)
-  piece-is c p (atomInside e f) = (refl, tt)
+  piece-is c p (atomInside e f) = (refl, e)
   piece-is c p (listFirst e) = absurd (begun e)
-  piece-is c p (listInside e f) = (refl, f)
-  piece-is c p (listClosed e) = (refl, tt)
+  piece-is c p (listInside e f) = (refl, (e, f))
+  piece-is c p (listClosed e) = (refl, e)
   piece-is c p (textEnded e) = (refl, tt)
+
+module _ (w : Serializer) (text words : List ℕ) (i a t : ℕ) where
+  turn-writing : (closes : Bool) → Inside w (turnCall closes text words a t i) → w .phase ≡ Writing
+  turn-writing true h = h
+  turn-writing false h =
+      split (eqb (kind words i) 0)
+      (λ k. subst (Inside w) (call-list text words a t i (eqb-true _ _ k)) h .0)
+      (λ k. subst (Inside w) (call-atom text words a t i (eqb-false _ _ k)) h)
+
+  turn-deeper : (closes : Bool) → opensAt words i closes ≡ true → Inside w (turnCall closes text words a t i) → w .lists < deepest
+  turn-deeper true k h = absurd (false≢true k)
+  turn-deeper false k h = subst (Inside w) (call-list text words a t i (eqb-true _ _ k)) h .1
 
 -- ---- what a turn draws is its call's piece
 
@@ -145,15 +164,7 @@ module _ (s : Style) (p : Pen) (flags : List Bool) (x y z : ℕ) (text words : L
       (λ k. rw (call-list text words a t i (eqb-true _ _ k)) (item-pictured true k h))
       (λ k. rw (call-atom text words a t i (eqb-false _ _ k)) (item-pictured false k h))
 
-  turn-deeper : (closes : Bool) → opensAt words i closes ≡ true → Deeper (penned p flags x y z) (turnCall closes text words a t i) → p .lists < deepest
-  turn-deeper true k h = absurd (false≢true k)
-  turn-deeper false k h = rw (call-list text words a t i (eqb-true _ _ k)) at h
-
 -- ---- the calls left
-
-or-right : (x y : Bool) → y ≡ true → (x || y) ≡ true
-or-right true y e = refl
-or-right false y e = e
 
 module _ {s : Style} {text words : List ℕ} {t : ℕ} {finish : Bool} {b₀ : List ℕ} {w₀ : Serializer} {e : ℕ} {b : List ℕ} {w : Serializer} {ends : List ℕ}
     {«open» i a o : ℕ} (h : Left s text words t finish true b₀ w₀ e b w ends «open» i a o)
@@ -178,42 +189,37 @@ module _ {s : Style} {text words : List ℕ} {t : ℕ} {finish : Bool} {b₀ : L
     turn-sound = accepted-sound s (length b) w call (due-accepted (turn-due h told g .1))
 
 -- where the drawing walk is, with `open` lists of the tree open
-pub record Reached (s : Style) (text words : List ℕ) (t : ℕ) (finish : Bool) (b₀ : List ℕ) (w₀ : Serializer) (b : List ℕ) (p : Pen) (flags : List Bool) (ends : List ℕ)
-    («open» i a : ℕ) : Type 0 where
+pub record Reached (s : Style) (text words : List ℕ) (t : ℕ) (finish : Bool) (b₀ : List ℕ) (w₀ : Serializer) (e : ℕ) (b : List ℕ) (p : Pen) (flags : List Bool)
+    (ends : List ℕ) («open» i a : ℕ) : Type 0 where
   pub spaces : ℕ
   pub breaks : ℕ
   pub indents : ℕ
   pub offset : ℕ
-  pub left : Left s text words t finish true b₀ w₀ (span words 0) b (penned p flags spaces breaks indents) ends «open» i a offset
+  pub left : Left s text words t finish true b₀ w₀ e b (penned p flags spaces breaks indents) ends «open» i a offset
   pub fit : (n : Node) → decide (length text) words ≡ some n → fits s (length b₀) w₀ (textCalls text t finish n) ≡ true
-  pub root : 0 < «open» → getD ends 0 0 ≡ span words 0
-  pub done : «open» ≡ 0 → span words 0 ≤ i
 
-module _ {s : Style} {text words : List ℕ} {t : ℕ} {finish : Bool} {b₀ : List ℕ} {w₀ : Serializer} {b : List ℕ} {p : Pen} {flags : List Bool} {ends : List ℕ}
-    {«open» i a : ℕ} (h : Reached s text words t finish b₀ w₀ b p flags ends «open» i a) where
+module _ {s : Style} {text words : List ℕ} {t : ℕ} {finish : Bool} {b₀ : List ℕ} {w₀ : Serializer} {e : ℕ} {b : List ℕ} {p : Pen} {flags : List Bool}
+    {ends : List ℕ} {«open» i a : ℕ} (h : Reached s text words t finish b₀ w₀ e b p flags ends «open» i a) where
   abbrev pen : Serializer
   pen = penned p flags (h .spaces) (h .breaks) (h .indents)
 
   -- ---- a turn
 
-  module _ {closes : Bool} (told : closes ≡ closesAt ends «open» i) (more : 0 < «open») where
-    never : «open» ≡ 0 → i < span words 0
-    never z = absurd (omega arith)
-
-    goes : (ltb i (span words 0) || ltb 0 «open») ≡ true
-    goes = or-right (ltb i (span words 0)) (ltb 0 «open») (lt-ltb 0 «open» more)
+  module _ {closes : Bool} (told : closes ≡ closesAt ends «open» i) (goes : (ltb i e || ltb 0 «open») ≡ true) where
+    more : «open» ≡ 0 → i < e
+    more = goes-more i e «open» goes
 
     abbrev due : Call
     due = turnCall closes text words a t i
 
     picked : Chosen s (length b) pen due (step s (length b) pen due)
-    picked = turn-chosen (h .left) (h .fit) told never
+    picked = turn-chosen (h .left) (h .fit) told more
+
+    as-piece : (picked .piece ≡ pieceOf s pen due) × Inside pen due
+    as-piece = piece-is s pen (not-beginning (p .lists)) due (picked .piece) (picked .puts)
 
     opened : 0 < p .lists
-    opened = omega (arith, h .left .lists)
-
-    as-piece : (picked .piece ≡ pieceOf s pen due) × Deeper pen due
-    as-piece = piece-is s pen (not-beginning (p .lists)) due (picked .piece) (picked .puts)
+    opened = open-some (p .lists) (turn-writing pen text words i a t closes (as-piece .1))
 
     pictured : Pictured s p flags text words i closes a t (picked .piece)
     pictured = rw (as-piece .0) (turn-pictured s p flags (h .spaces) (h .breaks) (h .indents) text words i a t closes opened)
@@ -225,11 +231,11 @@ module _ {s : Style} {text words : List ℕ} {t : ℕ} {finish : Bool} {b₀ : L
         record {
           fits = omega (arith, picked .fit, layout, token);
           small = omega (arith, picked .fit, layout, token);
-          line = sound pen (turn-sound (h .left) (h .fit) told never) .checked .line;
+          line = sound pen (turn-sound (h .left) (h .fit) told more) .checked .line;
           «some» = opened;
           few = omega (arith, h .left .lists, h .left .walk .few);
           there = λ k. left-ready (h .left) goes (sym told ∙ k) .there;
-          deeper = λ y. turn-deeper s p flags (h .spaces) (h .breaks) (h .indents) text words i a t closes y (as-piece .1);
+          deeper = λ y. turn-deeper pen text words i a t closes y (as-piece .1);
         }
 
     -- it was drawn
@@ -250,7 +256,7 @@ module _ {s : Style} {text words : List ℕ} {t : ℕ} {finish : Bool} {b₀ : L
         answer = At (p .position + length (picked .piece .layout));
       }
 
-      drawn-made : Steps (step s (length b) pen due) pen true b drawn-step flags′ now
+      drawn-made : Makes (step s (length b) pen due) pen true b drawn-step flags′ now
       drawn-made = record {
         serializer = rw (d .pen, d .flagged, picked .same) (sym (pictured .after));
         answer = rw (picked .same);
@@ -261,32 +267,10 @@ module _ {s : Style} {text words : List ℕ} {t : ℕ} {finish : Bool} {b₀ : L
       reached-passable = turn-passable (h .left) told goes drawn-made refl keeps refl
 
       module _ {q : Place} {ends′ : List ℕ} (past : Passed words ends «open» i closes q ends′) where
-        pub reached-less : 2 * (span words 0 - q .i) + q .open < 2 * (span words 0 - i) + «open»
+        pub reached-less : 2 * (e - q .i) + q .open < 2 * (e - i) + «open»
         reached-less = turn-less (h .left) told goes drawn-made refl keeps refl past
 
-        root-kept : 0 < q .open → getD ends′ 0 0 ≡ span words 0
-        root-kept l =
-            split closes
-            (λ k. ap (λ (x : List ℕ). getD x 0 0) (rw k at (past .ended)) ∙ h .root more)
-            (λ k.
-            split (eqb (kind words i) 0)
-            (λ z. ap (λ (x : List ℕ). getD x 0 0) (rw (k, z) at (past .ended)) ∙ getD-set-other ends «open» 0 (i + span words i) 0 (λ y. absurd (omega arith)) ∙ h .root more)
-            (λ z. ap (λ (x : List ℕ). getD x 0 0) (rw (k, z) at (past .ended)) ∙ h .root more))
-
-        done-kept : q .open ≡ 0 → span words 0 ≤ q .i
-        unfolding closesAt
-        done-kept l =
-            split closes
-            (λ k.
-            let here = eqb-true (getD ends («open» - 1) 0) i (and-second (ltb 0 «open») _ (sym told ∙ k)) in
-            let one : «open» - 1 ≡ 0 = sym (rw k at (past .opened)) ∙ l in
-            omega (arith, ap (λ (j : ℕ). getD ends j 0) one, here, h .root more, rw k at (past .next)))
-            (λ k.
-            split (eqb (kind words i) 0)
-            (λ z. absurd (omega (arith, rw (k, z) at (past .opened))))
-            (λ z. absurd (omega (arith, rw (k, z) at (past .opened)))))
-
-        pub reached-on : {a′ : ℕ} → a′ ≡ cond (q .begins) largest t → Reached s text words t finish b₀ w₀ now p′ flags′ ends′ (q .open) (q .i) a′
+        pub reached-on : {a′ : ℕ} → a′ ≡ cond (q .begins) largest t → Reached s text words t finish b₀ w₀ e now p′ flags′ ends′ (q .open) (q .i) a′
         reached-on m = record {
           spaces = picked .piece .after .spaces;
           breaks = picked .piece .after .breaks;
@@ -294,26 +278,21 @@ module _ {s : Style} {text words : List ℕ} {t : ℕ} {finish : Bool} {b₀ : L
           offset = cond (eqb i 0) (p .position + length (picked .piece .layout)) (h .offset);
           left = turn-on (h .left) told goes drawn-made refl keeps refl past m;
           fit = h .fit;
-          root = root-kept;
-          done = done-kept;
         }
 
   -- ---- the end
 
-  module _ (none : «open» ≡ 0) where
-    last-due : pending text a t (h .left .inner) (h .left .outer) (lastCalls finish) ≡ lastCalls finish
-    last-due = walk-ended (h .left .inner) (h .left .outer) (h .left .walk) (h .done none) none text a t (lastCalls finish)
-
+  module _ (over : (ltb i e || ltb 0 «open») ≡ false) where
     -- without a finish all is drawn
     pub reached-end : finish ≡ false → {n : Node} → decide (length text) words ≡ some n → b ≡ run s b₀ w₀ (textCalls text t finish n) .buffer
     unfolding run
     reached-end f {n} d =
-        let due = last-due ∙ ap lastCalls f in
+        let due = last-due (h .left) over ∙ ap lastCalls f in
         rw (Option·some-injective _ _ (sym d ∙ h .left .decided)) (rw due at (h .left .same .buffer refl))
 
     module _ (f : finish ≡ true) where
       finish-due : pending text a t (h .left .inner) (h .left .outer) (lastCalls finish) ≡ finishCall true ∷ []
-      finish-due = last-due ∙ ap lastCalls f
+      finish-due = last-due (h .left) over ∙ ap lastCalls f
 
       finish-picked : Chosen s (length b) pen (finishCall true) (step s (length b) pen (finishCall true))
       finish-picked = chosen s (length b) pen (finishCall true) _ (verdict s (length b) pen (finishCall true)) (due-accepted (h .left) (h .fit) finish-due)
@@ -334,63 +313,92 @@ module _ {s : Style} {text words : List ℕ} {t : ℕ} {finish : Bool} {b₀ : L
           let end = same-on (rw finish-due at (h .left .same)) {now = now} refl all (ap (λ (r : Written). r .answer) (finish-picked .same)) keeps in
           rw (Option·some-injective _ _ (sym d ∙ h .left .decided)) (end .buffer refl)
 
--- ---- the start: the first call, made by the writer's step
-
--- the phase that an item's call leaves
-abbrev Told : Call → Serializer → Type 0
-Told (putAtomCall a t) v = v .phase ≡ phaseAfter (v .lists)
-Told (beginListCall t) v = v .phase ≡ phaseAfter (v .lists)
-Told endListCall v = v .phase ≡ phaseAfter (v .lists)
-Told (finishCall wished) v = Unit {0}
-
-piece-told : (s : Style) (w : Serializer) → isSound w ≡ true → (c : Call) (p : Piece) → Puts s w c p → Told c (p .after)
-unfolding firstAtom firstList inner innerAs close closeAs last phaseAfter
-piece-told s w h c p (atomAlone e f) = refl
-piece-told s w h c p (atomInside e f) = sym (some-open (w .lists) (leb-true 1 (w .lists) (ap (λ (x : Phase). listsFit x (w .lists)) (sym e) ∙ sound w h .checked .opens)))
-piece-told s w h c p (listFirst e) = refl
-piece-told s w h c p (listInside e f) = sym (some-open (w .lists + 1) (omega arith))
-piece-told s w h c p (listClosed e) = refl
-piece-told s w h c p (textEnded e) = tt
-
--- an atom that is the whole tree spans one node
-root-atom : (l : ℕ) (words : List ℕ) → isSome (decide l words) ≡ true → (kind words 0 ≡ 0 → ⊥) → span words 0 ≡ 1
-unfolding sizes
-root-atom l words h k =
-    let (n, d, held) = held l words h in
-    of n (root-rest held)
-  where
-    of : (n : Node) → Rest words (span words 0) 0 (n then empty) → span words 0 ≡ 1
-    of (atom q m) r = omega (arith, atom-here q m empty r .rest .stop)
-    of (list c) r = absurd (k (list-here c empty r .kinds))
-
--- the pen of a record
-abbrev pub penOf : Progress → Pen
-penOf v = record { position = v .position; «line_len» = v .«line_len»; lists = v .lists; «list_beginning» = v .«list_beginning» }
+-- ---- the start: at the text's first token, or in a list
 
 -- a tree whose calls fit
 pub record Fitting (s : Style) (text words : List ℕ) (t : ℕ) (finish : Bool) (b : List ℕ) (w : Serializer) : Type 0 where
   pub checked : Checked text words
   pub fit : (n : Node) → decide (length text) words ≡ some n → fits s (length b) w (textCalls text t finish n) ≡ true
 
-module _ {s : Style} {text words : List ℕ} {t : ℕ} {finish : Bool} {b : List ℕ} {w : Serializer} (h : Fitting s text words t finish b w)
-    (ends : List ℕ) (size : length ends ≡ deepest) where
-  shallow : w .lists ≤ deepest
+first-phase : (f : Phase) → isFirst f ≡ true → f ≡ Beginning
+first-phase Beginning k = refl
+first-phase Writing k = absurd (false≢true k)
+first-phase Finished k = absurd (false≢true k)
+first-phase Done k = absurd (false≢true k)
+
+later-phase : (f : Phase) → isFirst f ≡ false → f ≡ Beginning → ⊥
+later-phase f k e = false≢true (sym k ∙ ap isFirst e)
+
+-- the piece of a text's first item
+abbrev First : Serializer → Call → Piece → Type 0
+First w (putAtomCall a t) p = p ≡ firstAtom w a
+First w (beginListCall t) p = p ≡ firstList w
+First w endListCall p = Unit {0}
+First w (finishCall wished) p = Unit {0}
+
+not-both : {f : Phase} → f ≡ Beginning → f ≡ Writing → ⊥
+not-both e k = let z : _≡_ {A = ℕ} 0 1 = cc in omega arith
+
+first-is : (s : Style) (w : Serializer) → w .phase ≡ Beginning → (c : Call) (p : Piece) → Puts s w c p → First w c p
+first-is s w h c p (atomAlone e f) = refl
+first-is s w h c p (atomInside e f) = absurd (not-both h e)
+first-is s w h c p (listFirst e) = refl
+first-is s w h c p (listInside e f) = absurd (not-both h e)
+first-is s w h c p (listClosed e) = tt
+first-is s w h c p (textEnded e) = tt
+
+-- what is drawn first is that piece
+record FirstPictured (v : Progress) (flags : List Bool) (text words : List ℕ) (piece : Piece) : Type 0 where
+  layout : piece .layout ≡ []
+  token : piece .token ≡ tokenAt text words 0 false
+  after : piece .after ≡ penned (firstPen (penOf v) text words) (firstFlags flags words) (v .spaces) (v .breaks) (v .indents)
+
+first-pictured : (v : Progress) (flags : List Bool) (text words : List ℕ) (t : ℕ) (p : Piece) → First (joined v flags) (callAt text words t t 0) p → FirstPictured v flags text words p
+unfolding firstAtom firstList phaseAfter
+first-pictured v flags text words t p h =
+    split (eqb (kind words 0) 0)
+    (λ k.
+    let e : p ≡ firstList (joined v flags) = rw (call-list text words t t 0 (eqb-true _ _ k)) at h in
+    rw e (record { layout = refl; token = rw k; after = rw k }))
+    (λ k.
+    let e : p ≡ firstAtom (joined v flags) (partOf text (first words 0) (second words 0)) = rw (call-atom text words t t 0 (eqb-false _ _ k)) at h in
+    rw e (record { layout = refl; token = rw k; after = rw k }))
+
+-- in a list the phase is told by the open lists
+as-penned : (v : Progress) (flags : List Bool) → v .phase ≡ phaseAfter (v .lists) → joined v flags ≡ penned (penOf v) flags (v .spaces) (v .breaks) (v .indents)
+as-penned v flags =
+    ap
+    (λ (f : Phase). record {
+      position = v .position;
+      phase = f;
+      lists = v .lists;
+      «line_broken» = flags;
+      «list_beginning» = v .«list_beginning»;
+      «line_len» = v .«line_len»;
+      spaces = v .spaces;
+      breaks = v .breaks;
+      indents = v .indents;
+    })
+
+module _ {s : Style} {text words : List ℕ} {t : ℕ} {finish : Bool} {b : List ℕ} (v : Progress) (flags : List Bool) (h : Fitting s text words t finish b (joined v flags))
+    (ends : List ℕ) (size : length ends ≡ deepest) {e : ℕ} (spans : e ≡ span words 0) where
+  abbrev w : Serializer
+  w = joined v flags
+
+  shallow : v .lists ≤ deepest
   shallow =
       let (n, d, held) = held (length text) words (h .checked .holds) in
       sound w (first-sound s (length b) w text t finish n (h .fit n d)) .checked .depth
 
-  begins : Left s text words t finish true b w (span words 0) b w ends 0 0 t 0
-  begins = left-start s text words t finish true b w ends 0 (h .checked) shallow size refl
+  begins : Left s text words t finish true b w e b w ends 0 0 t 0
+  begins = left-start s text words t finish true b w ends 0 (h .checked) shallow size spans
 
-  at-root : (ltb 0 (span words 0) || ltb 0 0) ≡ true
-  at-root = rw (lt-ltb 0 (span words 0) (begins .nonempty))
+  at-root : (ltb 0 e || ltb 0 0) ≡ true
+  at-root = rw (lt-ltb 0 e (begins .nonempty))
 
   not-yet : false ≡ closesAt ends 0 0
   unfolding closesAt
   not-yet = refl
-
-  pub root-ready : Ready text words 0
-  root-ready = left-ready begins at-root (sym not-yet)
 
   abbrev rootCall : Call
   rootCall = callAt text words t t 0
@@ -398,67 +406,80 @@ module _ {s : Style} {text words : List ℕ} {t : ℕ} {finish : Bool} {b : List
   root-picked : Chosen s (length b) w rootCall (step s (length b) w rootCall)
   root-picked = turn-chosen begins (h .fit) not-yet (λ z. begins .nonempty)
 
-  abbrev after : Serializer
-  after = root-picked .piece .after
+  -- ---- the first token
 
-  after-told : after .phase ≡ phaseAfter (after .lists)
-  after-told =
-      let told = piece-told s w (turn-sound begins (h .fit) not-yet (λ z. begins .nonempty)) rootCall (root-picked .piece) (root-picked .puts) in
-      split (eqb (kind words 0) 0)
-      (λ z. subst (λ (c : Call). Told c after) (call-list text words t t 0 (eqb-true _ _ z)) told)
-      (λ z. subst (λ (c : Call). Told c after) (call-atom text words t t 0 (eqb-false _ _ z)) told)
+  module _ (k : isFirst (v .phase) ≡ true) where
+    root-pictured : FirstPictured v flags text words (root-picked .piece)
+    root-pictured = first-pictured v flags text words t (root-picked .piece) (first-is s w (first-phase (v .phase) k) rootCall (root-picked .piece) (root-picked .puts))
 
-  module _ {r : Step} {flags : List Bool} {now : List ℕ} (made : Steps (step s (length b) w rootCall) w true b r flags now) (keeps : length now ≡ length b) where
-    root-accepted : answerAs (r .answer) ≡ writer.Answer.accepted (w .position + length (root-picked .piece .layout))
-    root-accepted = made .answer ∙ ap (λ (x : Written). x .answer) (root-picked .same)
+    pub root-fits : FirstFits (penOf v) text words (length b)
+    root-fits = record {
+      fits = omega (arith, root-picked .fit, ap length (root-pictured .layout), ap length (root-pictured .token));
+      there = omega (arith, left-ready begins at-root (sym not-yet) .there);
+    }
 
-    pub root-passable : Passable words 0 0 false
-    root-passable = turn-passable begins not-yet at-root made root-accepted keeps refl
-
-    root-after : joined (r .progress) flags ≡ after
-    root-after = made .serializer ∙ ap (λ (x : Written). x .serializer) (root-picked .same)
-
-    root-phase : r .progress .phase ≡ phaseAfter (r .progress .lists)
-    root-phase = ap (λ (v : Serializer). v .phase) root-after ∙ after-told ∙ ap (λ (v : Serializer). phaseAfter (v .lists)) (sym root-after)
-
-    as-penned : joined (r .progress) flags ≡ penned (penOf (r .progress)) flags (r .progress .spaces) (r .progress .breaks) (r .progress .indents)
-    as-penned =
-        ap
-        (λ (f : Phase). record {
-          position = r .progress .position;
-          phase = f;
-          lists = r .progress .lists;
-          «line_broken» = flags;
-          «list_beginning» = r .progress .«list_beginning»;
-          «line_len» = r .progress .«line_len»;
-          spaces = r .progress .spaces;
-          breaks = r .progress .breaks;
-          indents = r .progress .indents;
-        })
-        root-phase
-
-    module _ {q : Place} {ends′ : List ℕ} (past : Passed words ends 0 0 false q ends′) where
-      root-end : 0 < q .open → getD ends′ 0 0 ≡ span words 0
-      root-end l =
-          split (eqb (kind words 0) 0)
-          (λ z. ap (λ (x : List ℕ). getD x 0 0) (rw z at (past .ended)) ∙ getD-set-same ends 0 (0 + span words 0) 0 (omega (arith, size)) ∙ omega arith)
-          (λ z. absurd (omega (arith, rw z at (past .opened))))
-
-      root-done : q .open ≡ 0 → span words 0 ≤ q .i
-      root-done l =
-          split (eqb (kind words 0) 0)
-          (λ z. absurd (omega (arith, rw z at (past .opened))))
-          (λ z. omega (arith, past .next, root-atom (length text) words (h .checked .holds) (eqb-false _ _ z)))
-
-      pub root-reached : {a : ℕ} → a ≡ cond (q .begins) largest t → Reached s text words t finish b w now (penOf (r .progress)) flags ends′ (q .open) (q .i) a
-      root-reached {a} m = record {
-        spaces = r .progress .spaces;
-        breaks = r .progress .breaks;
-        indents = r .progress .indents;
-        offset = w .position + length (root-picked .piece .layout);
-        left = subst (λ (v : Serializer). Left s text words t finish true b w (span words 0) now v ends′ (q .open) (q .i) a (w .position + length (root-picked .piece .layout))) as-penned
-            (turn-on begins not-yet at-root made root-accepted keeps refl past m);
-        fit = h .fit;
-        root = root-end;
-        done = root-done;
+    module _ {r : Begun} {laid : List Bool} {ended now : List ℕ} (d : Begins true (penOf v) flags text words ends b r laid ended now) where
+      -- the step that the writer would have made
+      abbrev first-step : Step
+      first-step = record {
+        progress = record {
+          position = r .pen .position;
+          lists = r .pen .lists;
+          «line_len» = r .pen .«line_len»;
+          spaces = v .spaces;
+          breaks = v .breaks;
+          indents = v .indents;
+          phase = phaseAfter (r .pen .lists);
+          «list_beginning» = r .pen .«list_beginning»;
+        };
+        answer = At (v .position + length (root-picked .piece .layout));
       }
+
+      first-made : Makes (step s (length b) w rootCall) w true b first-step laid now
+      first-made = record {
+        serializer = rw (d .pen, d .flagged, root-picked .same) (sym (root-pictured .after));
+        answer = rw (root-picked .same);
+        buffer = d .buffer ∙ rw (root-picked .same, root-pictured .layout, root-pictured .token);
+      }
+
+      first-reached : length now ≡ length b → {a : ℕ} → a ≡ cond (r .place .begins) largest t
+          → Reached s text words t finish b w e now (r .pen) laid ended (r .place .open) (r .place .i) a
+      first-reached keeps m = record {
+        spaces = v .spaces;
+        breaks = v .breaks;
+        indents = v .indents;
+        offset = v .position + length (root-picked .piece .layout);
+        left = turn-on begins not-yet at-root first-made refl keeps refl (d .passed refl) m;
+        fit = h .fit;
+      }
+
+  -- ---- in a list
+
+  inside-phase : isFirst (v .phase) ≡ false → v .phase ≡ phaseAfter (v .lists)
+  inside-phase k =
+      let inside = piece-is s w (later-phase (v .phase) k) rootCall (root-picked .piece) (root-picked .puts) .1 in
+      let writing = turn-writing w text words 0 t t false inside in
+      writing ∙ sym (some-open (v .lists) (writing-lists w (turn-sound begins (h .fit) not-yet (λ z. begins .nonempty)) writing))
+
+  inside-reached : isFirst (v .phase) ≡ false → Reached s text words t finish b w e b (penOf v) flags ends 0 0 t
+  inside-reached k = record {
+    spaces = v .spaces;
+    breaks = v .breaks;
+    indents = v .indents;
+    offset = 0;
+    left = subst (λ (x : Serializer). Left s text words t finish true b w e b x ends 0 0 t 0) (as-penned v flags (inside-phase k)) begins;
+    fit = h .fit;
+  }
+
+  -- ---- either way
+
+  begun-as : (first : Bool) → isFirst (v .phase) ≡ first → {r : Begun} {laid : List Bool} {ended now : List ℕ} → Begins first (penOf v) flags text words ends b r laid ended now
+      → length now ≡ length b → {a : ℕ} → a ≡ cond (r .place .begins) largest t
+      → Reached s text words t finish b w e now (r .pen) laid ended (r .place .open) (r .place .i) a
+  begun-as true k d keeps m = first-reached k d keeps m
+  begun-as false k d keeps m = let (place, kept) = d .waits refl in rw (m, d .pen, d .flagged, d .buffer, place, kept) (inside-reached k)
+
+  pub root-reached : {r : Begun} {laid : List Bool} {ended now : List ℕ} → Begins (isFirst (v .phase)) (penOf v) flags text words ends b r laid ended now
+      → length now ≡ length b → {a : ℕ} → a ≡ cond (r .place .begins) largest t
+      → Reached s text words t finish b w e now (r .pen) laid ended (r .place .open) (r .place .i) a
+  root-reached d keeps m = begun-as (isFirst (v .phase)) refl d keeps m

@@ -25,11 +25,6 @@ unbroken flags n h =
     (λ e. rw e cleared)
     (λ e. rw (e, cleared) (set-getD flags (n - 1) false))
 
--- one byte
-pub pasted-one : (l : List ℕ) (at b : ℕ) → at < length l → set l at b ≡ pasted l at (b ∷ [])
-unfolding pasted
-pasted-one l at b h = set-split l at b h ∙ ap (λ (k : ℕ). take at l ++ b ∷ drop k l) (sym (add-one at)) ∙ sym (append-assoc (take at l) (b ∷ []) (drop (at + 1) l))
-
 -- how many lists are around a token
 pub around-few : (n : ℕ) (closes : Bool) → 0 < n → n ≤ deepest → (around n closes ≤ deepest) × ((closes ≡ true → around n closes < deepest) × (closes ≡ false → 0 < around n closes))
 around-few n true h k = (omega arith, (λ e. omega arith, λ e. absurd (false≢true (sym e))))
@@ -51,8 +46,3 @@ pub lead-is : (s : Style) (p : Pen) (flags : List Bool) (words : List ℕ) (i : 
     → leadOf s n breaks joins ≡ leadAt s p flags words i closes a t
 unfolding leadAt
 lead-is s p flags words i closes a t e f g h = rw (h, g, f, e)
-
--- bytes drawn right behind others
-pub pasted-behind : (l : List ℕ) (at : ℕ) (a b : List ℕ) {m now : List ℕ} {to : ℕ} → m ≡ pasted l at a → to ≡ at + length a → now ≡ pasted m to b → at + length a ≤ length l
-    → now ≡ pasted l at (a ++ b)
-pasted-behind l at a b e f g h = g ∙ rw (e, f) (pasted-more l at a h b)

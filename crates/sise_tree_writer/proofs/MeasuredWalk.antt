@@ -15,7 +15,7 @@ use Rattle.sise_util.proofs.Ranges.{split, and-first, and-second, both}
 use Rattle.sise_parser.specs.Reader.{partOf}
 use Rattle.sise_serializer.specs.Serializer as writer
 use Rattle.sise_serializer.specs.Serializer.{Style, limit, deepest, isSound, putIn, beginIn, endIn, finishIn, last}
-use Rattle.sise_serializer.specs.Steps.{joined, Steps}
+use Rattle.sise_serializer.specs.Steps.{joined}
 use Rattle.sise_serializer.specs.Parts.{Small}
 use Rattle.sise_serializer.specs.declared.serializer.Phase.{Phase}
 use Rattle.sise_serializer.specs.declared.serializer.Phase.the-variants.{Beginning, Writing, Finished, Done}
@@ -38,7 +38,7 @@ use Rattle.sise_tree_writer.specs.declared.serialize.Place.{Place}
 use Rattle.sise_tree_writer.proofs.CallLaws.{call-list, call-atom, fits-on, fits-off}
 use Rattle.sise_tree_writer.proofs.Walk.{pending, closes-open, walk-deep}
 use Rattle.sise_tree_writer.proofs.Sizes.{lastAfter, last-sized}
-use Rattle.sise_tree_writer.proofs.WalkCalls.{Left, left-start, goes-more, left-few, left-ready, turn-off, turn-passable, turn-less, turn-on, at-end, last-due}
+use Rattle.sise_tree_writer.proofs.WalkCalls.{Makes, Left, left-start, goes-more, left-few, left-ready, turn-off, turn-passable, turn-less, turn-on, at-end, last-due}
 use Rattle.sise_tree_writer.proofs.SoundSteps.{in-writing, turn-sound}
 use Rattle.sise_tree_writer.proofs.MeasuredTurns.{Leads, led-on, led-off, part-length, turn-leads}
 
@@ -168,7 +168,7 @@ module _ {s : Style} {text words : List ℕ} {t : ℕ} {finish : Bool} {room : �
 
         -- or has
         module _ (q : p′ .position ≤ min room limit) where
-          made : Steps (step s (length buffer) w (turnCall closes text words a t i)) w false buffer (record { progress = p′; answer = put.At (p′ .position - n) }) flags′ buffer
+          made : Makes (step s (length buffer) w (turnCall closes text words a t i)) w false buffer (record { progress = p′; answer = put.At (p′ .position - n) }) flags′ buffer
           made =
               let (x, y) = led-on gauge-leads (omega (arith, length-replicate {A = ℕ} room 0)) in
               record { serializer = sym y; answer = sym x; buffer = refl }

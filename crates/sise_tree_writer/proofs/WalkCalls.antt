@@ -13,8 +13,9 @@ use Rattle.sise_util.specs.Atom.{isAtomPrefix}
 use Rattle.sise_util.proofs.Ranges.{split, and-first, and-second, both}
 use Rattle.sise_parser.specs.Reader.{partOf}
 use Rattle.sise_serializer.specs.Serializer as writer
-use Rattle.sise_serializer.specs.Serializer.{Style, answerAs, deepest, finishWriting}
-use Rattle.sise_serializer.specs.Steps.{joined, Steps}
+use Rattle.sise_serializer.specs.Bytes.{pasted}
+use Rattle.sise_serializer.specs.Serializer.{Style, Written, answerAs, deepest, finishWriting}
+use Rattle.sise_serializer.specs.Steps.{joined}
 use Rattle.sise_serializer.specs.declared.serializer.Serializer.{Serializer}
 use Rattle.sise_serializer.specs.declared.steps.Step.{Step}
 use Rattle.sise_layout.specs.Calls.{largest, Call, putAtomCall, beginListCall, endListCall, finishCall, step, run}
@@ -35,8 +36,15 @@ unfolding textCalls pending rowCalls
 all-pending text t true n = ap (λ (l : List Call). l ++ finishCall true ∷ []) (sym (append-nil (nodeCalls text t t n)))
 all-pending text t false n = sym (append-nil (nodeCalls text t t n ++ []) ∙ append-nil (nodeCalls text t t n))
 
+-- what a turn of a walk made of a call, as d says of it, on the record w and the buffer `before`: the record, the answer and, if it draws, the bytes;
+-- a walk that only measures leaves the buffer
+pub record Makes (d : Written) (w : Serializer) (draws : Bool) (before : List ℕ) (r : Step) (flags : List Bool) (now : List ℕ) : Type 0 where
+  pub serializer : joined (r .progress) flags ≡ d .serializer
+  pub answer : answerAs (r .answer) ≡ d .answer
+  pub buffer : now ≡ cond draws (pasted before (w .position) (d .bytes)) before
+
 -- where the walk is: from the record w and the buffer b, with an atom due at the threshold a, and with the first call's offset o once one was made
-pub record Left (s : Style) (text words : List ℕ) (t : ℕ) (finish commit : Bool) (b₀ : List ℕ) (w₀ : Serializer) (e : ℕ)
+pub record Left (s : Style) (text words : List ℕ) (t : ℕ) (finish draws : Bool) (b₀ : List ℕ) (w₀ : Serializer) (e : ℕ)
     (b : List ℕ) (w : Serializer) (ends : List ℕ) («open» i a o : ℕ) : Type 0 where
   pub tree : Node
   pub decided : decide (length text) words ≡ some tree
@@ -47,15 +55,15 @@ pub record Left (s : Style) (text words : List ℕ) (t : ℕ) (finish commit : B
   pub lists : w .lists ≡ w₀ .lists + «open»
   pub nonempty : 0 < e
   pub passed : «open» ≤ i
-  pub same : Same s commit b₀ w₀ (textCalls text t finish tree) b w (pending text a t inner outer (lastCalls finish))
+  pub same : Same s draws b₀ w₀ (textCalls text t finish tree) b w (pending text a t inner outer (lastCalls finish))
   pub begun : i ≡ 0 → firstAnswer s (length b₀) w (pending text a t inner outer (lastCalls finish)) ≡ firstAnswer s (length b₀) w₀ (textCalls text t finish tree)
   pub offset : 0 < i → firstAnswer s (length b₀) w₀ (textCalls text t finish tree) ≡ writer.Answer.accepted o
 
-pub left-start : (s : Style) (text words : List ℕ) (t : ℕ) (finish commit : Bool) (b : List ℕ) (w : Serializer) {e : ℕ} (ends : List ℕ) (o : ℕ)
+pub left-start : (s : Style) (text words : List ℕ) (t : ℕ) (finish draws : Bool) (b : List ℕ) (w : Serializer) {e : ℕ} (ends : List ℕ) (o : ℕ)
     → Checked text words → w .lists ≤ deepest → length ends ≡ deepest → e ≡ span words 0
-    → Left s text words t finish commit b w e b w ends 0 0 t o
+    → Left s text words t finish draws b w e b w ends 0 0 t o
 unfolding flat atomsHoldAll
-left-start s text words t finish commit b w ends o k few size z =
+left-start s text words t finish draws b w ends o k few size z =
     let (n, d, held) = held (length text) words (k .holds) in
     let e = all-pending text t finish n in
     rw z (record {
@@ -68,7 +76,7 @@ left-start s text words t finish commit b w ends o k few size z =
       lists = omega arith;
       nonempty = omega (arith, held .spans, size-pos n);
       passed = omega arith;
-      same = rw (← e) (same-start s commit b w (textCalls text t finish n));
+      same = rw (← e) (same-start s draws b w (textCalls text t finish n));
       begun = λ _. ap (firstAnswer s (length b) w) (sym e);
       offset = λ l. absurd (omega arith);
     })
@@ -81,8 +89,8 @@ neither : (x y : Bool) → (x || y) ≡ false → (x ≡ false) × (y ≡ false)
 neither true y g = absurd (false≢true (sym g))
 neither false y g = (refl, g)
 
-module _ {s : Style} {text words : List ℕ} {t : ℕ} {finish commit : Bool} {b₀ : List ℕ} {w₀ : Serializer} {e : ℕ} {b : List ℕ} {w : Serializer} {ends : List ℕ}
-    {«open» i a o : ℕ} (h : Left s text words t finish commit b₀ w₀ e b w ends «open» i a o) where
+module _ {s : Style} {text words : List ℕ} {t : ℕ} {finish draws : Bool} {b₀ : List ℕ} {w₀ : Serializer} {e : ℕ} {b : List ℕ} {w : Serializer} {ends : List ℕ}
+    {«open» i a o : ℕ} (h : Left s text words t finish draws b₀ w₀ e b w ends «open» i a o) where
   abbrev calls : List Call
   calls = textCalls text t finish (h .tree)
 
@@ -108,12 +116,12 @@ module _ {s : Style} {text words : List ℕ} {t : ℕ} {finish commit : Bool} {b
 
   -- a call of the rest was made
   module _ {c : Call} {cs : List Call} (due : rest ≡ c ∷ cs) {r : Step} {flags : List Bool} {now : List ℕ}
-      (made : Steps (step s (length b) w c) w commit b r flags now) where
+      (made : Makes (step s (length b) w c) w draws b r flags now) where
     module _ {at : ℕ} (accepted : answerAs (r .answer) ≡ writer.Answer.accepted at) where
       answer : step s (length b) w c .answer ≡ writer.Answer.accepted at
       answer = sym (made .answer) ∙ accepted
 
-      same-rest : length now ≡ length b → Same s commit b₀ w₀ calls now (joined (r .progress) flags) cs
+      same-rest : length now ≡ length b → Same s draws b₀ w₀ calls now (joined (r .progress) flags) cs
       same-rest keeps = same-on (rw due at (h .same)) (made .serializer) (made .buffer) answer keeps
 
       lists-rest : (r .progress .lists ≡ lists-after c (w .lists)) × (lists-after c (w .lists) ≤ deepest)
@@ -156,13 +164,13 @@ module _ {s : Style} {text words : List ℕ} {t : ℕ} {finish commit : Bool} {b
     turn-off q = let (cs, due) = turn-due in sym (h .same .fit) ∙ ap (fits s (length b₀) w) due ∙ fits-off s (length b₀) w (turnCall closes text words a t i) cs q
 
   module _ {closes : Bool} (told : closes ≡ closesAt ends «open» i) (g : (ltb i e || ltb 0 «open») ≡ true) {r : Step} {flags : List Bool} {now : List ℕ}
-      (made : Steps (step s (length b) w (turnCall closes text words a t i)) w commit b r flags now) where
+      (made : Makes (step s (length b) w (turnCall closes text words a t i)) w draws b r flags now) where
     module _ {at x : ℕ} (accepted : answerAs (r .answer) ≡ writer.Answer.accepted at) (keeps : length now ≡ length b) (q : x ≡ cond (eqb i 0) at o) where
-      turn-close : closes ≡ true → Left s text words t finish commit b₀ w₀ e now (joined (r .progress) flags) ends («open» - 1) i t x
+      turn-close : closes ≡ true → Left s text words t finish draws b₀ w₀ e now (joined (r .progress) flags) ends («open» - 1) i t x
       turn-close k =
           let c = closing (h .inner) (h .outer) (h .walk) (sym told ∙ k) in
           let due = c .calls text a t (lastCalls finish) in
-          let done : Steps (step s (length b) w endListCall) w commit b r flags now = rw k at made in
+          let done : Makes (step s (length b) w endListCall) w draws b r flags now = rw k at made in
           let «some» = closes-open ends «open» i (sym told ∙ k) in
           record {
             tree = h .tree;
@@ -186,12 +194,12 @@ module _ {s : Style} {text words : List ℕ} {t : ℕ} {finish commit : Bool} {b
           omega (arith, h .lists, lists-rest due (rw (k, call-list text words a t i z) at made) accepted .1)
 
       turn-open : closes ≡ false → kind words i ≡ 0 → {v : ℕ} → v ≡ i + span words i
-          → Left s text words t finish commit b₀ w₀ e now (joined (r .progress) flags) (set ends «open» v) («open» + 1) (i + 1) largest x
+          → Left s text words t finish draws b₀ w₀ e now (joined (r .progress) flags) (set ends «open» v) («open» + 1) (i + 1) largest x
       unfolding flat atomsHoldAll atomsHold
       turn-open k z d =
           let c = opening (h .inner) (h .outer) (h .walk) (sym told ∙ k) (goes-more i e «open» g) z d in
           let due = c .calls text a t (lastCalls finish) in
-          let done : Steps (step s (length b) w (beginListCall t)) w commit b r flags now = rw (k, call-list text words a t i z) at made in
+          let done : Makes (step s (length b) w (beginListCall t)) w draws b r flags now = rw (k, call-list text words a t i z) at made in
           record {
             tree = h .tree;
             decided = h .decided;
@@ -207,12 +215,12 @@ module _ {s : Style} {text words : List ℕ} {t : ℕ} {finish commit : Bool} {b
             offset = λ l. offset-rest due done accepted q;
           }
 
-      turn-pass : closes ≡ false → (kind words i ≡ 0 → ⊥) → Left s text words t finish commit b₀ w₀ e now (joined (r .progress) flags) ends «open» (i + 1) t x
+      turn-pass : closes ≡ false → (kind words i ≡ 0 → ⊥) → Left s text words t finish draws b₀ w₀ e now (joined (r .progress) flags) ends «open» (i + 1) t x
       unfolding atomsHoldAll
       turn-pass k z =
           let c = passing (h .inner) (h .outer) (h .walk) (sym told ∙ k) (goes-more i e «open» g) z in
           let due = c .calls text a t (lastCalls finish) in
-          let done : Steps (step s (length b) w (putAtomCall (partOf text (first words i) (second words i)) a)) w commit b r flags now = rw (k, call-atom text words a t i z) at made in
+          let done : Makes (step s (length b) w (putAtomCall (partOf text (first words i) (second words i)) a)) w draws b r flags now = rw (k, call-atom text words a t i z) at made in
           record {
             tree = h .tree;
             decided = h .decided;
@@ -239,7 +247,7 @@ module _ {s : Style} {text words : List ℕ} {t : ℕ} {finish commit : Bool} {b
         pub turn-less : 2 * (e - p .i) + p .open < 2 * (e - i) + «open»
         turn-less = pass-less (h .inner) (h .outer) (h .walk) told (goes-more i e «open» g) past
 
-        pub turn-on : {a′ : ℕ} → a′ ≡ cond (p .begins) largest t → Left s text words t finish commit b₀ w₀ e now (joined (r .progress) flags) ends′ (p .open) (p .i) a′ x
+        pub turn-on : {a′ : ℕ} → a′ ≡ cond (p .begins) largest t → Left s text words t finish draws b₀ w₀ e now (joined (r .progress) flags) ends′ (p .open) (p .i) a′ x
         turn-on m =
             split closes
             (λ k. rw (m, past .begun, past .ended, past .opened, past .next, k) (turn-close k))

@@ -10,8 +10,13 @@ use lib.ListN.{length, getD, set}
 use Rattle.sise_parser.specs.Reader.{partOf}
 use Rattle.sise_serializer.specs.Bytes.{pasted}
 use Rattle.sise_serializer.specs.Serializer.{Style, limit, deepest, newLineOf, phaseAfter, flagsAfter}
+use Rattle.sise_serializer.specs.declared.serializer.Phase.{Phase}
+use Rattle.sise_serializer.specs.declared.serializer.Phase.the-variants.{Beginning, Writing, Finished, Done}
 use Rattle.sise_serializer.specs.declared.serializer.Serializer.{Serializer}
+use Rattle.sise_serializer.specs.declared.steps.Progress.{Progress}
 use Rattle.sise_tree.specs.Tree.{kind, first, second}
+use Rattle.sise_tree_writer.specs.Writing.{Passed}
+use Rattle.sise_tree_writer.specs.declared.write.Begun.{Begun}
 use Rattle.sise_tree_writer.specs.declared.write.Pen.{Pen}
 
 -- the record of a pen, with its flags and three counts. Behind the first item the open lists tell the phase
@@ -107,3 +112,45 @@ pub record Drawn (s : Style) (p : Pen) (flags : List Bool) (text words : List �
   pub pen : r ≡ turnPen s p flags text words i closes a t
   pub flagged : laid ≡ turnFlags p flags words i closes a t
   pub buffer : now ≡ pasted before (p .position) (leadAt s p flags words i closes a t ++ tokenAt text words i closes)
+
+-- ---- the first token of a text
+
+-- no item of the text was written yet
+abbrev pub isFirst : Phase → Bool
+isFirst Beginning = true
+isFirst Writing = false
+isFirst Finished = false
+isFirst Done = false
+
+-- the pen of a record
+abbrev pub penOf : Progress → Pen
+penOf w = record { position = w .position; «line_len» = w .«line_len»; lists = w .lists; «list_beginning» = w .«list_beginning» }
+
+-- the pen behind it: "`(` gives D = 1, list-beginning, not broken, line length 1"; an atom leaves "line length still 0"
+abbrev pub firstPen : Pen → List ℕ → List ℕ → Pen
+firstPen p text words =
+    cond (eqb (kind words 0) 0)
+    (record { position = p .position + 1; «line_len» = 1; lists = 1; «list_beginning» = true })
+    (record {
+      position = p .position + length (partOf text (first words 0) (second words 0));
+      «line_len» = p .«line_len»;
+      lists = 0;
+      «list_beginning» = p .«list_beginning»;
+    })
+
+-- the flags
+abbrev pub firstFlags : List Bool → List ℕ → List Bool
+firstFlags flags words = cond (eqb (kind words 0) 0) (set flags 0 false) flags
+
+-- it fits
+pub record FirstFits (p : Pen) (text words : List ℕ) (room : ℕ) : Type 0 where
+  pub fits : p .position + length (tokenAt text words 0 false) ≤ room
+  pub there : 4 ≤ length words
+
+-- what beginning a walk promises, at a text's first token (isFirst) or in a list: the first token is drawn and passed, and all else is left to the walk
+pub record Begins (isFirst : Bool) (p : Pen) (flags : List Bool) (text words ends before : List ℕ) (r : Begun) (laid : List Bool) (ended now : List ℕ) : Type 0 where
+  pub pen : r .pen ≡ cond isFirst (firstPen p text words) p
+  pub flagged : laid ≡ cond isFirst (firstFlags flags words) flags
+  pub buffer : now ≡ cond isFirst (pasted before (p .position) (tokenAt text words 0 false)) before
+  pub passed : isFirst ≡ true → Passed words ends 0 0 false (r .place) ended
+  pub waits : isFirst ≡ false → (r .place ≡ record { «open» = 0; i = 0; begins = false }) × (ended ≡ ends)

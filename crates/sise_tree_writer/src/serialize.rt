@@ -2,15 +2,11 @@
 use crate::measure::Measured;
 use crate::measure::measure_nodes;
 use crate::write::write_nodes;
-use sise_parser::atom_bytes;
 use sise_parser::atom_run;
 use sise_serializer::Flags;
 use sise_serializer::Phase;
 use sise_serializer::Progress;
 use sise_serializer::Serializer;
-use sise_serializer::Step;
-use sise_serializer::begin_step;
-use sise_serializer::put_step;
 use sise_tree::LONGEST;
 use sise_tree::holds_tree;
 use sise_tree::wide;
@@ -23,14 +19,13 @@ ghost use Prim.Native.Nat.{ℕ, _+_, _*_, _≤_};
 ghost use lib.Dec.{ltb, eqb};
 ghost use lib.ListN.{length};
 ghost use Rattle.sise_serializer.specs.Serializer.{style, isSound, deepest};
-ghost use Rattle.sise_serializer.specs.Steps.{joined, Steps};
-ghost use Rattle.sise_layout.specs.Calls.{largest, step};
+ghost use Rattle.sise_layout.specs.Calls.{largest};
 ghost use Rattle.sise_tree.specs.Tree.{Node, depth};
 ghost use Rattle.sise_tree.specs.Decision.{decide, isSome};
 ghost use Rattle.sise_tree.specs.Answers.{numberOf};
 ghost use Rattle.sise_tree_writer.specs.Answers.{putAs};
 ghost use Rattle.sise_tree_writer.specs.SerializeTree.{atomsHold, isOver, writeNode, writeTree, serializeTree, DoesWrite, DoesMeasure};
-ghost use Rattle.sise_tree_writer.specs.Writing.{textCalls, InTable, isPlain, atomHoldsAt, closesAt, isFull, Passable, Passed, Ready, callAt, Checked};
+ghost use Rattle.sise_tree_writer.specs.Writing.{textCalls, InTable, isPlain, atomHoldsAt, closesAt, isFull, Passable, Passed, Checked};
 
 // The largest threshold: no line is that long.
 const LARGEST: u64 = 18446744073709551615;
@@ -214,47 +209,6 @@ fn too_deep(text_len: usize, table: &[u32], lists: usize) -> bool
         i = place.i;
     }
     false
-}
-
-// The call of node `i`: its atom at the threshold `atom_at`, or the start of its list.
-pub(crate) fn node_step(
-    progress: Progress,
-    flags: &mut Flags,
-    line_break: &[u8],
-    indentation: &[u8],
-    buf: &mut [u8],
-    text: &[u8],
-    table: &[u32],
-    i: usize,
-    atom_at: u64,
-    break_line_at: u64,
-    commit: bool,
-) -> Step
-    requires { ⌜ Ready (now text) (now table) i ⌝ }
-    ensures { λ r. ⌜ Steps (step (style (now («line_break» .entry)) (now (indentation .entry))) (length (now (buf .entry))) (joined progress (now (flags .entry))) (callAt (now (text .entry)) (now (table .entry)) «atom_at» «break_line_at» i)) (joined progress (now (flags .entry))) commit (now (buf .entry)) r (now (flags .exit)) (now (buf .exit)) ⌝ }
-{
-    if table[4 * i] == 0 {
-        return begin_step(
-            progress,
-            flags,
-            line_break,
-            indentation,
-            buf,
-            break_line_at,
-            commit,
-        );
-    }
-    let atom = atom_bytes(text, wide(table[4 * i + 1]), wide(table[4 * i + 2]));
-    put_step(
-        progress,
-        flags,
-        line_break,
-        indentation,
-        buf,
-        atom,
-        atom_at,
-        commit,
-    )
 }
 
 // Whether a node or an open list of the tree is left.

@@ -1,11 +1,13 @@
-// The bytes of a tree whose calls are known to fit: a walk that checks and counts nothing. The first call goes through the writer's step; from then on,
-// while a list of the tree is open, the writer is in a list.
+// The bytes of a tree whose calls are known to fit: a walk that checks and counts nothing. The first token of a text is drawn by itself; all others stand in
+// a list.
+use crate::serialize::Place;
 use crate::serialize::atom_threshold;
 use crate::serialize::closes_at;
-use crate::serialize::node_step;
+use crate::serialize::goes_on;
 use crate::serialize::pass;
 use sise_parser::atom_bytes;
 use sise_serializer::Flags;
+use sise_serializer::Phase;
 use sise_serializer::Progress;
 use sise_tree::wide;
 ghost use mathlib.Core.Path.{_≡_};
@@ -21,7 +23,7 @@ ghost use Rattle.sise_tree.specs.Tree.{Node};
 ghost use Rattle.sise_tree.specs.Decision.{decide};
 ghost use Rattle.sise_tree_writer.specs.SerializeTree.{fits};
 ghost use Rattle.sise_tree_writer.specs.Writing.{textCalls, Checked};
-ghost use Rattle.sise_tree_writer.specs.Drawing.{around, opensAt, tokenAt, breaksAt, flagsLaid, leadOf, lineOf, penAt, flagsAt, Drawable, Drawn};
+ghost use Rattle.sise_tree_writer.specs.Drawing.{around, opensAt, tokenAt, breaksAt, flagsLaid, leadOf, lineOf, penAt, flagsAt, isFirst, penOf, firstPen, firstFlags, Drawable, Drawn, FirstFits, Begins};
 
 // Where the next byte goes, and what decides the layout before it: the writer's record without phase, flags and counts.
 pub struct Pen {
@@ -260,6 +262,84 @@ fn draw_turn(
     draw_token(line, lists, flags, buf, text, table, i, closes, is_list)
 }
 
+// Whether no item of the text was written yet.
+fn is_first(phase: Phase) -> bool
+    ensures { λ r. ⌜ r ≡ isFirst phase ⌝ }
+{
+    match phase {
+        Phase::Beginning => true,
+        Phase::Writing => false,
+        Phase::Finished => false,
+        Phase::Done => false,
+    }
+}
+
+// The first token of a text: there is nothing before it, and no list around it.
+fn draw_first(pen: Pen, flags: &mut Flags, buf: &mut [u8], text: &[u8], table: &[u32]) -> Pen
+    requires { ⌜ FirstFits pen (now text) (now table) (length (now buf)) ⌝ }
+    ensures { λ r. ⌜ r ≡ firstPen pen (now (text .entry)) (now (table .entry)) ⌝ }
+    ensures { λ _. ⌜ now (flags .exit) ≡ firstFlags (now (flags .entry)) (now (table .entry)) ⌝ }
+    ensures { λ _. ⌜ now (buf .exit) ≡ pasted (now (buf .entry)) (pen .position) (tokenAt (now (text .entry)) (now (table .entry)) 0 false) ⌝ }
+{
+    let position = pen.position;
+    if table[0] == 0 {
+        buf[position] = 40;
+        flags[0] = false;
+        return Pen {
+            position: position + 1,
+            line_len: 1,
+            lists: 1,
+            list_beginning: true,
+        };
+    }
+    let atom = atom_bytes(text, wide(table[1]), wide(table[2]));
+    copy(buf, position, atom);
+    Pen {
+        position: position + atom.len(),
+        line_len: pen.line_len,
+        lists: 0,
+        list_beginning: pen.list_beginning,
+    }
+}
+
+// Where the walk's loop begins.
+pub struct Begun {
+    pub pen: Pen,
+    pub place: Place,
+}
+
+// Begins the walk: a text's first token is drawn and passed, so that all that the loop draws stands in a list.
+fn begin_walk(
+    progress: Progress,
+    flags: &mut Flags,
+    buf: &mut [u8],
+    text: &[u8],
+    table: &[u32],
+    ends: &mut [usize; 200],
+) -> Begun
+    requires { ⌜ (isFirst (progress .phase) ≡ true → FirstFits (penOf progress) (now text) (now table) (length (now buf))) ⌝ }
+    ensures { λ r. ⌜ Begins (isFirst (progress .phase)) (penOf progress) (now (flags .entry)) (now (text .entry)) (now (table .entry)) (now (ends .entry)) (now (buf .entry)) r (now (flags .exit)) (now (ends .exit)) (now (buf .exit)) ⌝ }
+{
+    let pen = Pen {
+        position: progress.position,
+        line_len: progress.line_len,
+        lists: progress.lists,
+        list_beginning: progress.list_beginning,
+    };
+    let phase = progress.phase;
+    if is_first(phase) {
+        let first = draw_first(pen, flags, buf, text, table);
+        let place = pass(table, ends, 0, 0, false);
+        return Begun { pen: first, place };
+    }
+    let place = Place {
+        open: 0,
+        i: 0,
+        begins: false,
+    };
+    Begun { pen, place }
+}
+
 // Writes the tree, and finish's line break if wished. All of its calls fit.
 pub(crate) fn write_nodes(
     progress: Progress,
@@ -275,32 +355,15 @@ pub(crate) fn write_nodes(
     requires { ⌜ Checked (now text) (now table) × ((n : Node) → decide (length (now text)) (now table) ≡ some n → fits (style (now «line_break») (now indentation)) (length (now buf)) (joined progress (now flags)) (textCalls (now text) «break_line_at» finish n) ≡ true) ⌝ }
     ensures { λ _. ⌜ ((n : Node) → decide (length (now (text .entry))) (now (table .entry)) ≡ some n → now (buf .exit) ≡ run (style (now («line_break» .entry)) (now (indentation .entry))) (now (buf .entry)) (joined progress (now (flags .entry))) (textCalls (now (text .entry)) «break_line_at» finish n) .buffer) ⌝ }
 {
+    let end = wide(table[3]);
     let mut ends = [0usize; 200];
-    let first = node_step(
-        progress,
-        flags,
-        line_break,
-        indentation,
-        buf,
-        text,
-        table,
-        0,
-        break_line_at,
-        break_line_at,
-        true,
-    );
-    let begun = first.progress;
-    let root = pass(table, &mut ends, 0, 0, false);
-    let mut pen = Pen {
-        position: begun.position,
-        line_len: begun.line_len,
-        lists: begun.lists,
-        list_beginning: begun.list_beginning,
-    };
+    let begun = begin_walk(progress, flags, buf, text, table, &mut ends);
+    let mut pen = begun.pen;
+    let root = begun.place;
     let mut open = root.open;
     let mut i = root.i;
     let mut atom_at = atom_threshold(root.begins, break_line_at);
-    while 0 < open {
+    while goes_on(i, end, open) {
         let closes = closes_at(&ends, open, i);
         pen = draw_turn(
             pen,

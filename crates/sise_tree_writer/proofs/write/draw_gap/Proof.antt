@@ -4,8 +4,7 @@ use native.Mathlib.Nat.{add-zero}
 use native.Mathlib.Omega.{arith}
 use mathlib.Core.Path.{sym}
 use borrow.Author.Needs.{needs}
-use Rattle.sise_serializer.proofs.Bytes.{pasted-none, layout-length}
-use Rattle.sise_tree_writer.proofs.Drawing.{pasted-one}
+use Rattle.sise_serializer.proofs.Bytes.{pasted-none, layout-length, pasted-one}
 use Rattle.sise_tree_writer.proofs.write.draw_gap.Statement.{statement}
 use Rattle.sise_tree_writer.proofs.write.draw_gap.Tie as tie
 

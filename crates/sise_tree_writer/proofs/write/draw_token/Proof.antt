@@ -5,7 +5,7 @@ use mathlib.Core.Path.{_≡_, sym, _∙_}
 use borrow.Author.Needs.{needs}
 use Rattle.sise_parser.specs.Reader.{partOf}
 use Rattle.sise_tree.specs.Tree.{first, second}
-use Rattle.sise_tree_writer.proofs.Drawing.{pasted-one}
+use Rattle.sise_serializer.proofs.Bytes.{pasted-one}
 use Rattle.sise_tree_writer.proofs.write.draw_token.Statement.{statement}
 use Rattle.sise_tree_writer.proofs.write.draw_token.Tie as tie
 

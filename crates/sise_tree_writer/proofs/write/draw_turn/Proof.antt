@@ -9,9 +9,10 @@ use lib.ListN.{length}
 use borrow.Author.Needs.{needs}
 use Rattle.sise_serializer.specs.Bytes.{pasted}
 use Rattle.sise_serializer.specs.Serializer.{style}
+use Rattle.sise_serializer.proofs.Bytes.{pasted-behind}
 use Rattle.sise_tree_writer.specs.Drawing.{tokenAt, leadOf, leadAt, turnPen, turnFlags}
 use Rattle.sise_tree_writer.specs.declared.write.Line.{Line}
-use Rattle.sise_tree_writer.proofs.Drawing.{around-few, around-less, lead-is, line-short, pasted-behind}
+use Rattle.sise_tree_writer.proofs.Drawing.{around-few, around-less, lead-is, line-short}
 use Rattle.sise_tree_writer.proofs.write.draw_turn.Statement.{statement}
 use Rattle.sise_tree_writer.proofs.write.draw_turn.Tie as tie
 
