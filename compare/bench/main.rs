@@ -81,6 +81,16 @@ fn seconds<T>(mut run: impl FnMut() -> T) -> f64 {
     time
 }
 
+/// The time of one of so many runs.
+fn repeated<T>(times: usize, mut run: impl FnMut() -> T) -> f64 {
+    let all = seconds(|| {
+        for _ in 0..times {
+            std::hint::black_box(run());
+        }
+    });
+    all / times as f64
+}
+
 /// The least times of the library and of the crate, in seconds.
 fn least(text: &str) -> (f64, f64) {
     assert_eq!(library_items(text), crate_items(text));
@@ -167,25 +177,26 @@ fn items_read(name: &str, text: &str) {
     );
 }
 
-/// The items of a text written again, all at one threshold.
+/// The items of a text written again, all at one threshold; a short list so often that the clock does not count.
 fn written(name: &str, text: &str, threshold: usize) {
     let mut writing = Writing::new(text, threshold);
     assert!(writing.agrees());
+    let calls = writing.calls();
+    let times = (100_000 / calls).max(1);
     let mut best = (f64::MAX, f64::MAX, f64::MAX);
     for _ in 0..ROUNDS {
-        best.0 = best.0.min(seconds(|| writing.by_library(false)));
-        best.1 = best.1.min(seconds(|| writing.by_library(true)));
-        best.2 = best.2.min(seconds(|| writing.by_crate()));
+        best.0 = best.0.min(repeated(times, || writing.by_library(false)));
+        best.1 = best.1.min(repeated(times, || writing.by_library(true)));
+        best.2 = best.2.min(repeated(times, || writing.by_crate()));
     }
     let (library, singly, original) = best;
-    let calls = writing.calls();
     let time = |seconds: f64| seconds / calls as f64 * 1e9;
     print!(
-        "{name:<28} {calls:>10} calls {:>8.0} ns/call {:>7.2}",
+        "{name:<28} {calls:>10} calls {:>8.1} ns/call {:>7.2}",
         time(library),
         original / library
     );
-    println!(" {:>8.0} ns/call {:>7.2}", time(singly), original / singly);
+    println!(" {:>8.1} ns/call {:>7.2}", time(singly), original / singly);
 }
 
 /// An atom checked, so many times over.
