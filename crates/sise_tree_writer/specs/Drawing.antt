@@ -142,7 +142,7 @@ firstPen p text words =
 abbrev pub firstFlags : List Bool → List ℕ → List Bool
 firstFlags flags words = cond (eqb (kind words 0) 0) (set flags 0 false) flags
 
--- it fits
+-- it has room, and node 0 is in the table
 pub record FirstFits (p : Pen) (text words : List ℕ) (room : ℕ) : Type 0 where
   pub fits : p .position + length (tokenAt text words 0 false) ≤ room
   pub there : 4 ≤ length words

@@ -274,7 +274,7 @@ fn is_first(phase: Phase) -> bool
     }
 }
 
-// The first token of a text: there is nothing before it, and no list around it.
+// The first token of a text: there is nothing before it, and no list around it. Behind an atom nothing follows, so its line need not be counted.
 fn draw_first(pen: Pen, flags: &mut Flags, buf: &mut [u8], text: &[u8], table: &[u32]) -> Pen
     requires { ⌜ FirstFits pen (now text) (now table) (length (now buf)) ⌝ }
     ensures { λ r. ⌜ r ≡ firstPen pen (now (text .entry)) (now (table .entry)) ⌝ }
@@ -340,7 +340,7 @@ fn begin_walk(
     Begun { pen, place }
 }
 
-// Writes the tree, and finish's line break if wished. All of its calls fit.
+// Writes the tree, and finish's line break if wished. All of its calls fit. `draw_turn` is called in one place, so that the compiler joins it into the loop.
 pub(crate) fn write_nodes(
     progress: Progress,
     flags: &mut Flags,
