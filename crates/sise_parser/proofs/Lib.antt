@@ -8,3 +8,4 @@ pub mod Utf8Borders
 pub mod Shifted
 pub mod Moved
 pub mod Lossless
+pub mod Parts

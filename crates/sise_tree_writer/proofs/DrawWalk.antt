@@ -36,6 +36,7 @@ use Rattle.sise_tree_writer.specs.declared.write.Pen.{Pen}
 use Rattle.sise_tree.proofs.LocalLaws.{held}
 use Rattle.sise_tree_writer.proofs.Walk.{pending}
 use Rattle.sise_tree_writer.proofs.CallLaws.{unsound, call-list, call-atom, same-on}
+use Rattle.sise_tree_writer.proofs.MeasuredTurns.{part-length}
 use Rattle.sise_tree_writer.proofs.WalkCalls.{Makes, Left, left-start, goes-more, left-ready, turn-passable, turn-less, turn-on, turn-due, last-due}
 
 -- ---- accepted calls
@@ -236,6 +237,7 @@ module _ {s : Style} {text words : List ℕ} {t : ℕ} {finish : Bool} {b₀ : L
           few = omega (arith, h .left .lists, h .left .walk .few);
           there = λ k. left-ready (h .left) goes (sym told ∙ k) .there;
           deeper = λ y. turn-deeper pen text words i a t closes y (as-piece .1);
+          inside = λ k y. part-length text (first words i) (second words i) (left-ready (h .left) goes (sym told ∙ k) .atom (eqb-false (kind words i) 0 (rw k at y))) .2;
         }
 
     -- it was drawn

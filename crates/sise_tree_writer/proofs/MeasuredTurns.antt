@@ -12,6 +12,7 @@ use borrow.Author.Tests.{le-leb, lt-leb, leb-true, leb-false, lt-ltb, eq-eqb, ne
 use Rattle.sise_util.specs.Atom.{isAtom}
 use Rattle.sise_util.proofs.Ranges.{split}
 use Rattle.sise_parser.specs.Reader.{partOf}
+use Rattle.sise_parser.proofs.Parts.{part-inside, part-outside}
 use Rattle.sise_serializer.specs.Serializer as writer
 use Rattle.sise_serializer.specs.Serializer.{Style, Piece, Written, limit, deepest, isSound, place, firstAtom, firstList, inner, close, putIn, beginIn, endIn, putAtom, beginList, endList}
 use Rattle.sise_serializer.specs.declared.serializer.Phase.{Phase}
@@ -55,28 +56,21 @@ module _ {s : Style} {room : ℕ} {w : Serializer} {c : Call} {n : ℕ} {v : Ser
 
 -- ---- the turns
 
--- an atom's bytes are as many as the table says
-part-is : (text : List ℕ) (p m : ℕ) → leb (p + m) (length text) ≡ true → partOf text p m ≡ take m (drop p text)
-unfolding partOf
-part-is text p m e = rw (e, partOf)
-
-part-none : (text : List ℕ) (p m : ℕ) → leb (p + m) (length text) ≡ false → partOf text p m ≡ []
-unfolding partOf
-part-none text p m e = rw (e, partOf)
-
-pub part-length : (text : List ℕ) (p m : ℕ) → isAtom (partOf text p m) ≡ true → (length (partOf text p m) ≡ m) × (1 ≤ m)
+-- an atom's bytes are as many as the table says, and lie in the text
+pub part-length : (text : List ℕ) (p m : ℕ) → isAtom (partOf text p m) ≡ true → (length (partOf text p m) ≡ m) × (1 ≤ m) × (p + m ≤ length text)
 unfolding isAtom
 part-length text p m h =
     split (leb (p + m) (length text))
     (λ e.
-    let q = part-is text p m e in
-    let fit = leb-true (p + m) (length text) e in (
+    let fit = leb-true (p + m) (length text) e in
+    let q = part-inside text p m fit in (
       ap length q ∙ omega (arith, length-take m (drop p text), length-drop p text),
       split (eqb m 0)
           (λ z. absurd (false≢true (ap (λ (k : ℕ). isAtom (take k (drop p text))) (sym (eqb-true m 0 z)) ∙ sym (ap isAtom q) ∙ h)))
           (λ z. omega (arith, eqb-false m 0 z)),
+      fit,
     ))
-    (λ e. absurd (false≢true (sym (ap isAtom (part-none text p m e)) ∙ h)))
+    (λ e. absurd (false≢true (sym (ap isAtom (part-outside text p m (leb-false (p + m) (length text) e))) ∙ h)))
 
 module _ (s : Style) (room : ℕ) (w : Serializer) (h : isSound w ≡ true) where
   abbrev b : ℕ

@@ -105,6 +105,7 @@ pub record Drawable (s : Style) (p : Pen) (flags : List Bool) (text words : List
   pub few : p .lists ≤ deepest
   pub there : closes ≡ false → 4 * (i + 1) ≤ length words
   pub deeper : opensAt words i closes ≡ true → p .lists < deepest
+  pub inside : closes ≡ false → opensAt words i closes ≡ false → first words i + second words i ≤ length text
 
 -- what a turn promises, that began with the pen p and the buffer `before` and ended with the pen r, the flags `flags` and the buffer `now`
 pub record Drawn (s : Style) (p : Pen) (flags : List Bool) (text words : List ℕ) (i : ℕ) (closes : Bool) (a t : ℕ) (before : List ℕ)

@@ -15,11 +15,12 @@ ghost use mathlib.Core.Bool.{true, false, _||_, cond};
 ghost use mathlib.Core.Option.{some};
 ghost use Prim.Native.Nat.{_+_, _*_, _≤_, _<_};
 ghost use lib.ListN.{length};
+ghost use Rattle.sise_parser.specs.Reader.{partOf};
 ghost use Rattle.sise_serializer.specs.Bytes.{pasted, repeat};
 ghost use Rattle.sise_serializer.specs.Serializer.{style, newLineOf};
 ghost use Rattle.sise_serializer.specs.Steps.{joined};
 ghost use Rattle.sise_layout.specs.Calls.{run};
-ghost use Rattle.sise_tree.specs.Tree.{Node};
+ghost use Rattle.sise_tree.specs.Tree.{Node, first, second};
 ghost use Rattle.sise_tree.specs.Decision.{decide};
 ghost use Rattle.sise_tree_writer.specs.SerializeTree.{fits};
 ghost use Rattle.sise_tree_writer.specs.Writing.{textCalls, Checked};
@@ -144,6 +145,14 @@ fn draw_gap(
     }
 }
 
+// The `len` bytes from `place` on, which lie in the text: atom_bytes with no test.
+fn part(text: &[u8], place: usize, len: usize) -> &[u8]
+    requires { ⌜ place + len ≤ length (now text) ⌝ }
+    ensures { λ r. ⌜ now r ≡ partOf (now (text .entry)) place len ⌝ }
+{
+    &text[place..place + len]
+}
+
 // The token at its place: `)`, `(`, or the atom of node `i`.
 fn draw_token(
     line: Line,
@@ -156,7 +165,7 @@ fn draw_token(
     closes: bool,
     is_list: bool,
 ) -> Pen
-    requires { ⌜ ((line .position + length (tokenAt (now text) (now table) i closes) ≤ length (now buf)) × (line .«line_len» ≤ line .position)) × ((closes ≡ false → 4 * (i + 1) ≤ length (now table)) × («is_list» ≡ true → lists < 200)) × («is_list» ≡ opensAt (now table) i closes) ⌝ }
+    requires { ⌜ ((line .position + length (tokenAt (now text) (now table) i closes) ≤ length (now buf)) × (line .«line_len» ≤ line .position)) × ((closes ≡ false → 4 * (i + 1) ≤ length (now table)) × («is_list» ≡ true → lists < 200)) × ((«is_list» ≡ opensAt (now table) i closes) × (closes ≡ false → «is_list» ≡ false → first (now table) i + second (now table) i ≤ length (now text))) ⌝ }
     ensures { λ r. ⌜ r ≡ penAt (line .position) (line .«line_len») lists (now (text .entry)) (now (table .entry)) i closes ⌝ }
     ensures { λ _. ⌜ now (flags .exit) ≡ flagsAt (now (flags .entry)) lists (now (table .entry)) i closes ⌝ }
     ensures { λ _. ⌜ now (buf .exit) ≡ pasted (now (buf .entry)) (line .position) (tokenAt (now (text .entry)) (now (table .entry)) i closes) ⌝ }
@@ -181,7 +190,7 @@ fn draw_token(
             list_beginning: true,
         };
     }
-    let atom = atom_bytes(text, wide(table[4 * i + 1]), wide(table[4 * i + 2]));
+    let atom = part(text, wide(table[4 * i + 1]), wide(table[4 * i + 2]));
     copy(buf, position, atom);
     Pen {
         position: position + atom.len(),

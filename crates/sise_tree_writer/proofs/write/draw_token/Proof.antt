@@ -30,7 +30,7 @@ returns c =
     (rw k, (rw k, rw k (pasted-one (a .buf .now) (a .line .position) 41 (omega arith))))
 
 slice-write-buf-2 : tie.Need-slice-write-buf-2
-slice-write-buf-2 c = let k = c .before .if1 .left in let start = c .before .before .before .before .before in let fit = rw (k, sym (rw k at (start .pre .2)) ∙ c .if2 .taken) at (start .pre .0 .0) in omega arith
+slice-write-buf-2 c = let k = c .before .if1 .left in let start = c .before .before .before .before .before in let fit = rw (k, sym (rw k at (start .pre .2 .0)) ∙ c .if2 .taken) at (start .pre .0 .0) in omega arith
 
 element-write-flags : tie.Need-element-write-flags
 element-write-flags c = let room = c .before .before .before .before .before .pre .1 .1 (c .if2 .taken) in search needs
@@ -51,7 +51,7 @@ returns-2 : tie.Need-returns-2
 returns-2 c =
     let k = c .before .before .if1 .left in
     let start = c .before .before .before .before .before .before in
-    let z = sym (rw k at (start .pre .2)) ∙ c .before .if2 .taken in
+    let z = sym (rw k at (start .pre .2 .0)) ∙ c .before .if2 .taken in
     let a = start .args in
     let fit = rw (k, z) at (start .pre .0 .0) in
     (rw (k, z), (rw (k, z), rw (k, z) (pasted-one (a .buf .now) (a .line .position) 40 (omega arith))))
@@ -86,15 +86,17 @@ shared-slice-read-wide-2 c = let there = c .before .before .before .before .befo
 wide-requires-2 : tie.Need-wide-requires-2
 wide-requires-2 c κs = search needs
 
-atom-bytes-requires : tie.Need-atom-bytes-requires
-atom-bytes-requires c κs = search needs
+part-requires : tie.Need-part-requires
+part-requires c κs =
+    let start = c .before .before .before .before .before .before .before .before .before in
+    omega (arith, start .pre .2 .1 (c .before .before .before .before .before .if1 .left) (c .before .before .before .before .if2 .left), c .before .before .wide .ensures .0, c .wide2 .ensures .0)
 
 copy-requires : tie.Need-copy-requires
 copy-requires c κs =
     let k = c .before .before .before .before .before .before .before .if1 .left in
     let start = c .before .before .before .before .before .before .before .before .before .before .before in
-    let z = sym (rw k at (start .pre .2)) ∙ c .before .before .before .before .before .before .if2 .left in
-    let fit = rw (k, z, ← c .before .before .before .before .wide .ensures .0, ← c .before .before .wide2 .ensures .0, ← c .before .atom-bytes .ensures) at (start .pre .0 .0) in
+    let z = sym (rw k at (start .pre .2 .0)) ∙ c .before .before .before .before .before .before .if2 .left in
+    let fit = rw (k, z, ← c .before .before .before .before .wide .ensures .0, ← c .before .before .wide2 .ensures .0, ← c .before .part .ensures) at (start .pre .0 .0) in
     omega arith
 
 add-t23 : tie.Need-add-t23
@@ -111,10 +113,10 @@ returns-3 c =
     let copied = c .before .before .before in
     let k = copied .before .before .before .before .before .before .before .before .if1 .left in
     let start = copied .before .before .before .before .before .before .before .before .before .before .before .before in
-    let z = sym (rw k at (start .pre .2)) ∙ copied .before .before .before .before .before .before .before .if2 .left in
+    let z = sym (rw k at (start .pre .2 .0)) ∙ copied .before .before .before .before .before .before .before .if2 .left in
     let a = start .args in
-    let atom : copied .before .before .atom-bytes .result .now ≡ partOf (a .text .now) (first (a .table .now) (a .i)) (second (a .table .now) (a .i)) =
-    copied .before .before .atom-bytes .ensures ∙ rw (copied .before .before .before .before .before .wide .ensures .0, copied .before .before .before .wide2 .ensures .0) in
+    let atom : copied .before .before .part .result .now ≡ partOf (a .text .now) (first (a .table .now) (a .i)) (second (a .table .now) (a .i)) =
+    copied .before .before .part .ensures ∙ rw (copied .before .before .before .before .before .wide .ensures .0, copied .before .before .before .wide2 .ensures .0) in
     (rw (k, z, ← atom), (rw (k, z), rw (k, z, ← atom) (copied .copy .ensures)))
 
 pub draw-token-spec : {M : Type 1} → statement M
@@ -143,7 +145,7 @@ draw-token-spec =
     mul-wide-4
     shared-slice-read-wide-2
     wide-requires-2
-    atom-bytes-requires
+    part-requires
     copy-requires
     add-t23
     add-t31

@@ -64,10 +64,11 @@ draw-token-requires : tie.Need-draw-token-requires
 draw-token-requires c κs =
     let gap = c .before .before .before .before in
     let a = start gap .args in
-    let pre = c .before .before .before .before .before .before .before .before .before .before .before .before .before .before .before .before .before .pre in (
+    let pre = c .before .before .before .before .before .before .before .before .before .before .before .before .before .before .before .before .before .pre in
+    let opens = c .before .before .before .before .before .before .before .before .before .before .before .opens-list .ensures in (
       (omega (arith, behind gap, gap .draw-gap .kept .0, pre .fits), rw (gap .draw-gap .ensures .0) (line-short (style (a .line-break .now) (a .indentation .now)) (a .pen .position) (a .pen .«line_len») (gap .before .before .before .before .before .before .around .result) (gap .before .before .before .breaks-line .result) (gap .before .before .joins-on .result) (pre .line))),
-      (pre .there, λ y. omega (arith, c .before .before .before .before .before .before .before .before .before .before .around .ensures, around-less (a .pen .lists) (a .closes), pre .deeper (sym (c .before .before .before .before .before .before .before .before .before .before .before .opens-list .ensures) ∙ y))),
-      c .before .before .before .before .before .before .before .before .before .before .before .opens-list .ensures,
+      (pre .there, λ y. omega (arith, c .before .before .before .before .before .before .before .before .before .before .around .ensures, around-less (a .pen .lists) (a .closes), pre .deeper (sym opens ∙ y))),
+      (opens, λ k y. pre .inside k (sym opens ∙ y)),
     )
 
 same-length : tie.Need-same-length
