@@ -21,10 +21,9 @@ use Rattle.sise_serializer.specs.declared.serializer.Serializer.{Serializer}
 use Rattle.sise_serializer.specs.declared.serializer.Put.the-variants.{At}
 use Rattle.sise_serializer.specs.declared.steps.Progress.{Progress}
 use Rattle.sise_serializer.specs.declared.steps.Step.{Step}
-use Rattle.sise_serializer.proofs.Does.{put-unsound, begin-unsound, end-unsound, finish-unsound}
 use Rattle.sise_serializer.proofs.Sound.{sound, writing-lists}
 use Rattle.sise_layout.specs.Calls.{largest, isAccepted, Call, putAtomCall, beginListCall, endListCall, finishCall, step, run}
-use Rattle.sise_layout.proofs.Verdicts.{endOf, put, Puts, atomAlone, atomInside, listFirst, listInside, listClosed, textEnded, Verdict, refuses, puts, verdict}
+use Rattle.sise_layout.proofs.Verdicts.{Puts, atomAlone, atomInside, listFirst, listInside, listClosed, textEnded}
 use Rattle.sise_tree.specs.Tree.{Node, atom, list, kind, first, second, span}
 use Rattle.sise_tree.specs.Decision.{decide}
 use Rattle.sise_tree_writer.specs.SerializeTree.{nodeCalls, fits}
@@ -35,40 +34,20 @@ use Rattle.sise_tree_writer.specs.declared.write.Begun.{Begun}
 use Rattle.sise_tree_writer.specs.declared.write.Pen.{Pen}
 use Rattle.sise_tree.proofs.LocalLaws.{held}
 use Rattle.sise_tree_writer.proofs.Walk.{pending}
-use Rattle.sise_tree_writer.proofs.CallLaws.{unsound, call-list, call-atom, same-on}
+use Rattle.sise_tree_writer.proofs.CallLaws.{call-list, call-atom, same-on}
+use Rattle.sise_tree_writer.proofs.Placing.{Lands, lands-put, fits-lands}
 use Rattle.sise_tree_writer.proofs.MeasuredTurns.{part-length}
 use Rattle.sise_tree_writer.proofs.WalkCalls.{Makes, Left, left-start, goes-more, left-ready, turn-passable, turn-less, turn-on, turn-due, last-due}
 
 -- ---- accepted calls
 
--- a call that is accepted puts a piece
-record Chosen (s : Style) (room : ℕ) (w : Serializer) (c : Call) (r : Written) : Type 0 where
-  piece : Piece
-  puts : Puts s w c piece
-  fit : endOf w piece ≤ min room limit
-  same : r ≡ put w piece
-
-module _ (s : Style) (room : ℕ) (w : Serializer) where
-  chosen : (c : Call) (r : Written) → Verdict s room w c r → isAccepted (r .answer) ≡ true → Chosen s room w c r
-  chosen c r (refuses n u) h = absurd (false≢true h)
-  chosen c r (puts p q f) h = record { piece = p; puts = q; fit = f; same = refl }
-
-  -- only a sound record is accepted
-  accepted-sound : (c : Call) → isAccepted (step s room w c .answer) ≡ true → isSound w ≡ true
-  accepted-sound c h = split (isSound w) (λ e. e) (λ e. absurd (false≢true (sym (ap (λ (r : Written). isAccepted (r .answer)) (unsound s room w c e)) ∙ h)))
-
-  -- the first of calls that fit is accepted
-  fits-first : (c : Call) (cs : List Call) → fits s room w (c ∷ cs) ≡ true → isAccepted (step s room w c .answer) ≡ true
-  unfolding fits
-  fits-first c cs h = and-first (isAccepted (step s room w c .answer)) _ h
-
 -- the tree's first call
 first-sound : (s : Style) (room : ℕ) (w : Serializer) (text : List ℕ) (t : ℕ) (finish : Bool) (n : Node) → fits s room w (textCalls text t finish n) ≡ true → isSound w ≡ true
 unfolding textCalls nodeCalls
-first-sound s room w text t true (atom p m) h = accepted-sound s room w (putAtomCall (partOf text p m) t) (fits-first s room w (putAtomCall (partOf text p m) t) _ h)
-first-sound s room w text t false (atom p m) h = accepted-sound s room w (putAtomCall (partOf text p m) t) (fits-first s room w (putAtomCall (partOf text p m) t) _ h)
-first-sound s room w text t true (list c) h = accepted-sound s room w (beginListCall t) (fits-first s room w (beginListCall t) _ h)
-first-sound s room w text t false (list c) h = accepted-sound s room w (beginListCall t) (fits-first s room w (beginListCall t) _ h)
+first-sound s room w text t true (atom p m) h = fits-lands s room w (putAtomCall (partOf text p m) t) _ h .sound
+first-sound s room w text t false (atom p m) h = fits-lands s room w (putAtomCall (partOf text p m) t) _ h .sound
+first-sound s room w text t true (list c) h = fits-lands s room w (beginListCall t) _ h .sound
+first-sound s room w text t false (list c) h = fits-lands s room w (beginListCall t) _ h .sound
 
 -- ---- the piece of a call behind the first item
 
@@ -174,20 +153,17 @@ module _ {s : Style} {text words : List ℕ} {t : ℕ} {finish : Bool} {b₀ : L
   rest = pending text a t (h .inner) (h .outer) (lastCalls finish)
 
   -- the first of them is accepted
-  due-accepted : {c : Call} {cs : List Call} → rest ≡ c ∷ cs → isAccepted (step s (length b) w c .answer) ≡ true
-  due-accepted {c} {cs} due =
-      ap (λ (k : ℕ). isAccepted (step s k w c .answer)) (h .same .room)
-      ∙ fits-first s (length b₀) w c cs (ap (fits s (length b₀) w) (sym due) ∙ h .same .fit ∙ fit (h .tree) (h .decided))
+  due-lands : {c : Call} {cs : List Call} → rest ≡ c ∷ cs → Lands s (length b) w c
+  due-lands {c} {cs} due =
+      subst (λ (k : ℕ). Lands s k w c) (sym (h .same .room))
+      (fits-lands s (length b₀) w c cs (ap (fits s (length b₀) w) (sym due) ∙ h .same .fit ∙ fit (h .tree) (h .decided)))
 
   module _ {closes : Bool} (told : closes ≡ closesAt ends «open» i) (g : «open» ≡ 0 → i < e) where
     abbrev call : Call
     call = turnCall closes text words a t i
 
-    turn-chosen : Chosen s (length b) w call (step s (length b) w call)
-    turn-chosen = chosen s (length b) w call _ (verdict s (length b) w call) (due-accepted (turn-due h told g .1))
-
-    turn-sound : isSound w ≡ true
-    turn-sound = accepted-sound s (length b) w call (due-accepted (turn-due h told g .1))
+    turn-lands : Lands s (length b) w call
+    turn-lands = due-lands (turn-due h told g .1)
 
 -- where the drawing walk is, with `open` lists of the tree open
 pub record Reached (s : Style) (text words : List ℕ) (t : ℕ) (finish : Bool) (b₀ : List ℕ) (w₀ : Serializer) (e : ℕ) (b : List ℕ) (p : Pen) (flags : List Bool)
@@ -213,8 +189,8 @@ module _ {s : Style} {text words : List ℕ} {t : ℕ} {finish : Bool} {b₀ : L
     abbrev due : Call
     due = turnCall closes text words a t i
 
-    picked : Chosen s (length b) pen due (step s (length b) pen due)
-    picked = turn-chosen (h .left) (h .fit) told more
+    picked : Lands s (length b) pen due
+    picked = turn-lands (h .left) (h .fit) told more
 
     as-piece : (picked .piece ≡ pieceOf s pen due) × Inside pen due
     as-piece = piece-is s pen (not-beginning (p .lists)) due (picked .piece) (picked .puts)
@@ -232,7 +208,7 @@ module _ {s : Style} {text words : List ℕ} {t : ℕ} {finish : Bool} {b₀ : L
         record {
           fits = omega (arith, picked .fit, layout, token);
           small = omega (arith, picked .fit, layout, token);
-          line = sound pen (turn-sound (h .left) (h .fit) told more) .checked .line;
+          line = sound pen (picked .sound) .checked .line;
           «some» = opened;
           few = omega (arith, h .left .lists, h .left .walk .few);
           there = λ k. left-ready (h .left) goes (sym told ∙ k) .there;
@@ -260,9 +236,9 @@ module _ {s : Style} {text words : List ℕ} {t : ℕ} {finish : Bool} {b₀ : L
 
       drawn-made : Makes (step s (length b) pen due) pen true b drawn-step flags′ now
       drawn-made = record {
-        serializer = rw (d .pen, d .flagged, picked .same) (sym (pictured .after));
-        answer = rw (picked .same);
-        buffer = d .buffer ∙ rw (picked .same, pictured .layout, pictured .token);
+        serializer = rw (d .pen, d .flagged, lands-put picked) (sym (pictured .after));
+        answer = rw (lands-put picked);
+        buffer = d .buffer ∙ rw (lands-put picked, pictured .layout, pictured .token);
       }
 
       pub reached-passable : Passable words «open» i closes
@@ -296,8 +272,8 @@ module _ {s : Style} {text words : List ℕ} {t : ℕ} {finish : Bool} {b₀ : L
       finish-due : pending text a t (h .left .inner) (h .left .outer) (lastCalls finish) ≡ finishCall true ∷ []
       finish-due = last-due (h .left) over ∙ ap lastCalls f
 
-      finish-picked : Chosen s (length b) pen (finishCall true) (step s (length b) pen (finishCall true))
-      finish-picked = chosen s (length b) pen (finishCall true) _ (verdict s (length b) pen (finishCall true)) (due-accepted (h .left) (h .fit) finish-due)
+      finish-picked : Lands s (length b) pen (finishCall true)
+      finish-picked = due-lands (h .left) (h .fit) finish-due
 
       as-last : finish-picked .piece ≡ last s pen true
       as-last = piece-is s pen (not-beginning (p .lists)) (finishCall true) (finish-picked .piece) (finish-picked .puts) .0
@@ -311,8 +287,8 @@ module _ {s : Style} {text words : List ℕ} {t : ℕ} {finish : Bool} {b₀ : L
           → now ≡ run s b₀ w₀ (textCalls text t finish n) .buffer
       unfolding run last
       reached-finish {now} e keeps {n} d =
-          let all : now ≡ pasted b (p .position) (step s (length b) pen (finishCall true) .bytes) = e ∙ rw (finish-picked .same, as-last, append-nil (s .lineBreak)) in
-          let end = same-on (rw finish-due at (h .left .same)) {now = now} refl all (ap (λ (r : Written). r .answer) (finish-picked .same)) keeps in
+          let all : now ≡ pasted b (p .position) (step s (length b) pen (finishCall true) .bytes) = e ∙ rw (lands-put finish-picked, as-last, append-nil (s .lineBreak)) in
+          let end = same-on (rw finish-due at (h .left .same)) {now = now} refl all (ap (λ (r : Written). r .answer) (lands-put finish-picked)) keeps in
           rw (Option·some-injective _ _ (sym d ∙ h .left .decided)) (end .buffer refl)
 
 -- ---- the start: at the text's first token, or in a list
@@ -405,8 +381,8 @@ module _ {s : Style} {text words : List ℕ} {t : ℕ} {finish : Bool} {b : List
   abbrev rootCall : Call
   rootCall = callAt text words t t 0
 
-  root-picked : Chosen s (length b) w rootCall (step s (length b) w rootCall)
-  root-picked = turn-chosen begins (h .fit) not-yet (λ z. begins .nonempty)
+  root-picked : Lands s (length b) w rootCall
+  root-picked = turn-lands begins (h .fit) not-yet (λ z. begins .nonempty)
 
   -- ---- the first token
 
@@ -439,9 +415,9 @@ module _ {s : Style} {text words : List ℕ} {t : ℕ} {finish : Bool} {b : List
 
       first-made : Makes (step s (length b) w rootCall) w true b first-step laid now
       first-made = record {
-        serializer = rw (d .pen, d .flagged, root-picked .same) (sym (root-pictured .after));
-        answer = rw (root-picked .same);
-        buffer = d .buffer ∙ rw (root-picked .same, root-pictured .layout, root-pictured .token);
+        serializer = rw (d .pen, d .flagged, lands-put root-picked) (sym (root-pictured .after));
+        answer = rw (lands-put root-picked);
+        buffer = d .buffer ∙ rw (lands-put root-picked, root-pictured .layout, root-pictured .token);
       }
 
       first-reached : length now ≡ length b → {a : ℕ} → a ≡ cond (r .place .begins) largest t
@@ -461,7 +437,7 @@ module _ {s : Style} {text words : List ℕ} {t : ℕ} {finish : Bool} {b : List
   inside-phase k =
       let inside = piece-is s w (later-phase (v .phase) k) rootCall (root-picked .piece) (root-picked .puts) .1 in
       let writing = turn-writing w text words 0 t t false inside in
-      writing ∙ sym (some-open (v .lists) (writing-lists w (turn-sound begins (h .fit) not-yet (λ z. begins .nonempty)) writing))
+      writing ∙ sym (some-open (v .lists) (writing-lists w (root-picked .sound) writing))
 
   inside-reached : isFirst (v .phase) ≡ false → Reached s text words t finish b w e b (penOf v) flags ends 0 0 t
   inside-reached k = record {

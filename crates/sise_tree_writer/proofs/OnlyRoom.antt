@@ -33,7 +33,8 @@ use Rattle.sise_tree_writer.proofs.Measuring.{turn-node}
 use Rattle.sise_tree_writer.proofs.Sizes.{Sized, first-atom-sized, first-list-sized, inner-sized, close-sized}
 use Rattle.sise_tree_writer.proofs.SoundSteps.{turn-sound}
 use Rattle.sise_tree_writer.proofs.Placing.{placed, not-placed, puts-place, put-fits}
-use Rattle.sise_tree_writer.proofs.TreeRooms.{no-answer, same-number, on-answer}
+use Rattle.sise_tree_writer.proofs.WalkDoes.{no-answer}
+use Rattle.sise_tree_writer.proofs.TreeRooms.{same-number, on-answer}
 
 -- a refusal's number, or what follows an accepted call
 abbrev pub refusalOr : writer.Answer → Option ℕ → Option ℕ

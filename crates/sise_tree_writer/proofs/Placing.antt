@@ -6,7 +6,7 @@ use mathlib.Core.Path.{_≡_, sym, ap, _∙_}
 use mathlib.Core.Bool.{true, false, _&&_, false≢true}
 use mathlib.Core.List.{List, _∷_}
 use borrow.Author.Tests.{le-leb, lt-leb}
-use Rattle.sise_util.proofs.Ranges.{split}
+use Rattle.sise_util.proofs.Ranges.{split, and-first}
 use Rattle.sise_serializer.specs.Serializer as writer
 use Rattle.sise_serializer.specs.Serializer.{Style, Piece, Written, limit, isSound, place, firstAtom, firstList, inner, innerAs, close, closeAs, last, putIn, beginIn, endIn, finishIn}
 use Rattle.sise_serializer.specs.declared.serializer.Serializer.{Serializer}
@@ -69,3 +69,12 @@ module _ (s : Style) (room : ℕ) (w : Serializer) (c : Call) where
       split (isSound w)
       (λ h. lands-of (step s room w c) (verdict s room w c) h a)
       (λ h. absurd (false≢true (sym (ap (λ (r : Written). isAccepted (r .answer)) (unsound s room w c h)) ∙ a)))
+
+-- it puts its piece
+pub lands-put : {s : Style} {room : ℕ} {w : Serializer} {c : Call} (k : Lands s room w c) → step s room w c ≡ put w (k .piece)
+lands-put {s} {room} {w} {c} k = puts-place s room w (k .sound) (k .puts) ∙ placed room w (k .piece) (k .fit)
+
+-- of calls that fit, the first is accepted
+pub fits-lands : (s : Style) (room : ℕ) (w : Serializer) (c : Call) (cs : List Call) → fits s room w (c ∷ cs) ≡ true → Lands s room w c
+unfolding fits
+fits-lands s room w c cs h = lands s room w c (and-first (isAccepted (step s room w c .answer)) _ h)

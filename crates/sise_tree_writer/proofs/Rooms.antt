@@ -20,7 +20,7 @@ use Rattle.sise_layout.proofs.Written.{writes}
 use Rattle.sise_layout.proofs.Verdicts.{endOf, put}
 use Rattle.sise_tree_writer.specs.SerializeTree.{fits}
 use Rattle.sise_tree_writer.proofs.CallLaws.{fits-off}
-use Rattle.sise_tree_writer.proofs.Placing.{placed, not-placed, puts-end, puts-place, put-fits, Lands, lands}
+use Rattle.sise_tree_writer.proofs.Placing.{placed, not-placed, puts-end, puts-place, put-fits, Lands, lands, lands-put, fits-lands}
 
 -- ---- the first of the calls, accepted in the buffer b
 
@@ -32,25 +32,17 @@ module _ (s : Style) (b : List ℕ) (w : Serializer) (c : Call) (k : Lands s (le
   now-long : length now ≡ length b
   now-long = pasted-length b (w .position) (k .piece .layout ++ k .piece .token) (omega (arith, length-append (k .piece .layout) (k .piece .token), k .fit))
 
-  lands-put : step s (length b) w c ≡ put w (k .piece)
-  lands-put = puts-place s (length b) w (k .sound) (k .puts) ∙ placed (length b) w (k .piece) (k .fit)
-
   module _ (cs : List Call) where
     lands-last : run s b w (c ∷ cs) .last ≡ run s now (k .piece .after) cs .last
     unfolding run
-    lands-last = ap (λ (r : Written). run s (pasted b (w .position) (r .bytes)) (r .serializer) cs .last) lands-put
+    lands-last = ap (λ (r : Written). run s (pasted b (w .position) (r .bytes)) (r .serializer) cs .last) (lands-put k)
 
     pub lands-answers : run s b w (c ∷ cs) .answers ≡ writer.Answer.accepted (w .position + length (k .piece .layout)) ∷ run s now (k .piece .after) cs .answers
     unfolding run
-    lands-answers = ap (λ (r : Written). r .answer ∷ run s (pasted b (w .position) (r .bytes)) (r .serializer) cs .answers) lands-put
+    lands-answers = ap (λ (r : Written). r .answer ∷ run s (pasted b (w .position) (r .bytes)) (r .serializer) cs .answers) (lands-put k)
 
     lands-fits : fits s (length b) w (c ∷ cs) ≡ fits s (length now) (k .piece .after) cs
-    lands-fits = put-fits s (length b) w c cs (k .piece) lands-put ∙ ap (λ (n : ℕ). fits s n (k .piece .after) cs) (sym now-long)
-
--- of calls that fit, the first is accepted
-pub fits-lands : (s : Style) (room : ℕ) (w : Serializer) (c : Call) (cs : List Call) → fits s room w (c ∷ cs) ≡ true → Lands s room w c
-unfolding fits
-fits-lands s room w c cs h = lands s room w c (and-first (isAccepted (step s room w c .answer)) _ h)
+    lands-fits = put-fits s (length b) w c cs (k .piece) (lands-put k) ∙ ap (λ (n : ℕ). fits s n (k .piece .after) cs) (sym now-long)
 
 -- ---- all of the calls
 

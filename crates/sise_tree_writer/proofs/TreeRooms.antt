@@ -19,10 +19,9 @@ use Rattle.sise_tree.specs.Decision.{decide}
 use Rattle.sise_tree.specs.ParseTree.{longest}
 use Rattle.sise_tree.specs.Answers.{Answer, answered, refusedWith, numberOf}
 use Rattle.sise_tree_writer.specs.SerializeTree.{atomsHold, fits, Writes, refuse, firstOffset, written, isOver, writeNode, writeTree}
-use Rattle.sise_tree_writer.proofs.Rooms.{lands-answers, fits-lands, exact-room, alike, larger, text-alike}
-
-pub no-answer : {A : Type 0} {n o : ℕ} → refusedWith n ≡ answered o → A
-no-answer {n} {o} e = let z : _≡_ {A = ℕ} 0 1 = cc in absurd (omega arith)
+use Rattle.sise_tree_writer.proofs.WalkDoes.{no-answer}
+use Rattle.sise_tree_writer.proofs.Placing.{fits-lands}
+use Rattle.sise_tree_writer.proofs.Rooms.{lands-answers, exact-room, alike, larger, text-alike}
 
 -- the answer of what is the same
 told : {d d′ : Writes} {a : Answer} → d ≡ d′ → d .answer ≡ a → d′ .answer ≡ a

@@ -135,7 +135,7 @@ module _ {s : Style} {room : ℕ} {w : Serializer} {deep : ℕ} {cs : List Call}
 
 -- ---- an answer says that all tests were passed
 
-no-answer : {A : Type 0} {n o : ℕ} → refusedWith n ≡ answered o → A
+pub no-answer : {A : Type 0} {n o : ℕ} → refusedWith n ≡ answered o → A
 no-answer {n} {o} e = let z : _≡_ {A = ℕ} 0 1 = cc in absurd (omega arith)
 
 module _ (s : Style) (b : List ℕ) (w : Serializer) (text : List ℕ) (calls : Node → List Call) where
