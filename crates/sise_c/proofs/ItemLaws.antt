@@ -1,12 +1,12 @@
 -- A text's items, read one after the other: where n of them are read the reader has moved n bytes or more, so the bound on the calls never runs out. A
 -- plain token is the item that next_item gives there.
 -- Assumes nothing.
-use Prim.Native.Nat.{ℕ, zero, suc, _+_, _-_, _*_, _≤_, _<_}
+use Prim.Native.Nat.{ℕ, suc, _+_, _-_, _*_, _≤_, _<_}
 use native.Mathlib.Nat.{zero-add}
 use native.Mathlib.Omega.{arith}
 use mathlib.Core.Path.{_≡_, refl, sym, ap, _∙_, subst}
 use mathlib.Core.Bool.{Bool, true, cond}
-use mathlib.Core.List.{List, [], _∷_, _++_}
+use mathlib.Core.List.{List, [], _∷_}
 use lib.ListN.{length, drop}
 use borrow.Author.Tests.{eqb-true, ne-eqb}
 use Rattle.sise_parser.specs.Refusals.{Refusal, refusalOf}

@@ -1,8 +1,7 @@
 -- Document 01's worked text, read into words, by computation; and `a b`, whose rest finish refuses.
 -- Assumes nothing.
-use Prim.Native.Nat.{ℕ}
 use mathlib.Core.Path.{_≡_, refl}
-use mathlib.Core.List.{List, [], _∷_}
+use mathlib.Core.List.{[], _∷_}
 use Rattle.sise_util.specs.Chars.{within}
 use Rattle.sise_util.specs.Classes.{classOf}
 use Rattle.sise_util.specs.Utf8.{character, byRows, forms, follow}

@@ -1,18 +1,17 @@
 -- Demand 3: between two writings of one list of items only layout differs. Each is read back whole, so both give the same items; the statement is
 -- `only-layout-differs`.
 -- Assumes nothing.
-use Prim.Native.Nat.{ℕ, zero, suc, _+_, _*_, _-_}
+use Prim.Native.Nat.{ℕ, zero, suc, _+_, _-_}
 use native.Mathlib.Omega.{arith}
-use mathlib.Core.Path.{_≡_, refl, sym, ap, ap₂, _∙_, subst}
+use mathlib.Core.Path.{_≡_, refl, sym, ap, ap₂, _∙_}
 use mathlib.Core.List.{List, [], _∷_, _++_, map}
-use lib.ListN.{length, take, drop, replicate}
-use Rattle.sise_parser.specs.Reader.{Answer, freshReader, refusedWith, answersFrom}
+use lib.ListN.{length, take, replicate}
+use Rattle.sise_parser.specs.Reader.{refusedWith}
 use Rattle.sise_serializer.specs.Serializer.{Style, freshSerializer}
 use Rattle.sise_serializer.specs.declared.serializer.Phase.the-variants.{Done}
 use Rattle.sise_serializer.specs.declared.serializer.Serializer.{Serializer}
-use Rattle.sise_layout.specs.Calls.{Call, Item, atom, listStart, listEnd, Placed, placed, itemsOf, writing, Finishes, textOf, Blank}
+use Rattle.sise_layout.specs.Calls.{Call, Item, atom, listStart, listEnd, Placed, itemsOf, writing, Finishes, textOf, Blank}
 use Rattle.sise_layout.specs.Reading.{asRead, Stands, All, none, more, Gives, itemRead, itemsRead}
-use Rattle.sise_layout.specs.Nodes.{Node}
 use Rattle.sise_layout.specs.Claim.{Spells, Holds}
 use Rattle.sise_serializer.specs.Examples.{house}
 use Rattle.sise_layout.specs.Examples.{used, worked, workedItems, Shown, shown, at-4, at-5, at-4-finishes, at-5-finishes, house-blank}

@@ -2,13 +2,11 @@
 -- Assumes nothing.
 use Prim.Native.Nat.{ℕ, _+_, _*_}
 use native.Mathlib.Omega.{arith}
-use mathlib.Core.Path.{_≡_, refl, ap, _∙_}
-use mathlib.Core.Bool.{Bool, true, false}
+use mathlib.Core.Path.{_≡_}
 use mathlib.Core.List.{List, [], _∷_, _++_}
 use lib.ListN.{length, length-append}
 use borrow.Author.Tests.{eqb-true}
-use Rattle.sise_serializer.specs.Serializer.{Style, Written, last, freshSerializer, listsFit}
-use Rattle.sise_serializer.specs.declared.serializer.Phase.{Phase}
+use Rattle.sise_serializer.specs.Serializer.{Style, Written, last, freshSerializer}
 use Rattle.sise_serializer.specs.declared.serializer.Phase.the-variants.{Done}
 use Rattle.sise_serializer.specs.declared.serializer.Serializer.{Serializer}
 use Rattle.sise_layout.specs.Calls.{Call, Item, atom, listStart, listEnd, Placed, itemsOf, itemOf, step, atomBytes, lists}

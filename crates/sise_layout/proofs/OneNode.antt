@@ -1,15 +1,13 @@
 -- The items of a finished writing spell one node: while n lists are open, what follows closes them one after the other.
 -- Assumes nothing.
-use Prim.Native.Nat.{ℕ, zero, suc, _+_, _-_, _≤_}
-use native.Mathlib.Numerals.{add-one}
-use native.Mathlib.Omega.{arith}
-use mathlib.Core.Path.{_≡_, refl, ap, subst, sym, _∙_}
-use mathlib.Core.List.{List, [], _∷_, _++_, append-assoc, append-nil}
+use Prim.Native.Nat.{ℕ, suc, _+_, _-_}
+use mathlib.Core.Path.{_≡_, refl, subst}
+use mathlib.Core.List.{List, [], _∷_, _++_, append-assoc}
 use Rattle.sise_serializer.specs.Serializer.{Style, Written, last, freshSerializer}
 use Rattle.sise_serializer.specs.declared.serializer.Phase.{Phase}
 use Rattle.sise_serializer.specs.declared.serializer.Phase.the-variants.{Beginning, Writing, Finished, Done}
 use Rattle.sise_serializer.specs.declared.serializer.Serializer.{Serializer}
-use Rattle.sise_layout.specs.Calls.{Call, Item, atom, listStart, listEnd, Placed, itemsOf, itemOf, step}
+use Rattle.sise_layout.specs.Calls.{Call, Item, listStart, listEnd, itemsOf, itemOf, step}
 use Rattle.sise_layout.specs.Nodes.{Node, Nodes, leaf, list, none, more}
 use Rattle.sise_layout.proofs.Pieces.{Aligned, Turns, only, begins, holds, deepens, shallower, ending}
 use Rattle.sise_layout.proofs.Outcomes.{Outcome, same, adds, ends, outcome}

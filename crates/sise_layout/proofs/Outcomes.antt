@@ -3,7 +3,7 @@
 use Prim.Native.Nat.{ℕ, _≤_, min}
 use mathlib.Core.Path.{_≡_, refl}
 use mathlib.Core.Bool.{Bool, true, false}
-use mathlib.Core.List.{List, [], _∷_}
+use mathlib.Core.List.{[], _∷_}
 use lib.Dec.{eqb}
 use Rattle.sise_serializer.specs.Serializer.{Style, Piece, Written, refuse, limit, isSound, firstAtom, firstList, inner, close, last}
 use Rattle.sise_serializer.specs.declared.serializer.Phase.the-variants.{Finished}

@@ -3,18 +3,18 @@
 use Prim.Native.Nat.{ℕ, zero, suc, _+_, _-_, _*_, _≤_, _<_}
 use native.Mathlib.Numerals.{add-one}
 use native.Mathlib.Omega.{arith}
-use mathlib.Core.Path.{_≡_, refl, sym, ap, _∙_}
+use mathlib.Core.Path.{_≡_, refl, sym}
 use mathlib.Core.Bool.{Bool, true, false, not, cond, false≢true}
 use mathlib.Core.List.{List, [], _∷_, _++_, append-assoc}
 use lib.Dec.{eqb, ltb}
-use lib.ListN.{length, getD, length-append}
+use lib.ListN.{length, getD}
 use borrow.Author.Tests.{eqb-true, eqb-false, leb-true, ne-eqb, le-leb}
 use Rattle.sise_util.specs.Chars.{oneOf}
 use Rattle.sise_util.specs.Classes.{classOf}
 use Rattle.sise_util.specs.Atom.{isAtom}
 use Rattle.sise_util.proofs.Ranges.{split}
 use Rattle.sise_parser.specs.Lexer.{found}
-use Rattle.sise_parser.specs.Reader.{Next, next, reader, inBeginning, inParsing}
+use Rattle.sise_parser.specs.Reader.{next, reader, inBeginning, inParsing}
 use Rattle.sise_parser.specs.declared.reader.Phase as readerPhase
 use Rattle.sise_parser.specs.declared.reader.Phase.the-variants as at
 use Rattle.sise_serializer.specs.Serializer.{Style, Piece, limit, deepest, lastBreak, listsFit, firstAtom, firstList, Gap, newLine, nothing, space, gapAt, newLineOf, laid, innerAs, inner, phaseAfter, closeAs, close}

@@ -2,7 +2,7 @@
 -- Assumes nothing.
 use Prim.Native.Nat.{ℕ, _+_}
 use native.Mathlib.Omega.{arith}
-use mathlib.Core.Path.{_≡_, refl, ap, _∙_, sym, subst}
+use mathlib.Core.Path.{_≡_, refl, ap, _∙_, sym}
 use mathlib.Core.Bool.{Bool, true, false, false≢true}
 use mathlib.Core.List.{List, [], _∷_, _++_, append-assoc}
 use lib.ListN.{length, length-append}
@@ -20,7 +20,7 @@ use Rattle.sise_layout.specs.Calls.{Call, Item, Placed, placed, itemOf, 
 use Rattle.sise_layout.proofs.Lexing.{stops, token, lexeme, item-on}
 use Rattle.sise_layout.proofs.Blanks.{append-blank}
 use Rattle.sise_layout.proofs.Following.{Follows, over, goes}
-use Rattle.sise_layout.proofs.ReaderSteps.{Going, first, inside, taken, next-at, early-at, next-over, end-over, stands-at}
+use Rattle.sise_layout.proofs.ReaderSteps.{Going, taken, next-at, early-at, next-over, end-over, stands-at}
 use Rattle.sise_layout.proofs.Pieces.{Aligned, Adds, phaseOf, settled}
 use Rattle.sise_layout.proofs.Outcomes.{Outcome, same, adds, ends, outcome}
 use Rattle.sise_layout.proofs.Written.{writes, fresh-aligned, last-aligned, last-blank, last-done, last-stops}

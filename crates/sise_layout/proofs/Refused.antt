@@ -2,11 +2,11 @@
 -- Assumes nothing.
 use Prim.Native.Nat.{ℕ}
 use mathlib.Core.Path.{_≡_, refl, sym, ap, _∙_}
-use mathlib.Core.Bool.{Bool, true, false, false≢true}
+use mathlib.Core.Bool.{false, false≢true}
 use mathlib.Core.List.{List, []}
 use lib.ListN.{length}
 use Rattle.sise_serializer.specs.Bytes.{pasted}
-use Rattle.sise_serializer.specs.Serializer.{Style, Written, Answer, accepted, refused}
+use Rattle.sise_serializer.specs.Serializer.{Style, Written, refused}
 use Rattle.sise_serializer.specs.declared.serializer.Serializer.{Serializer}
 use Rattle.sise_serializer.proofs.Bytes.{pasted-none}
 use Rattle.sise_layout.specs.Calls.{isAccepted, Call, step}

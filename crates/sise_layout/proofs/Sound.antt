@@ -1,14 +1,14 @@
 -- From a fresh record every record is sound, whatever the calls, their styles and their buffers, and so none is refused with 11.
 -- Assumes nothing.
-use Prim.Native.Nat.{ℕ, _+_, _*_, _≤_, min}
+use Prim.Native.Nat.{ℕ, _+_, _*_, _≤_}
 use native.Mathlib.Omega.{arith}
 use mathlib.Core.Path.{_≡_, refl, sym}
-use mathlib.Core.Bool.{Bool, true, false, not, false≢true}
+use mathlib.Core.Bool.{Bool, true, false, false≢true}
 use mathlib.Core.List.{List, [], _∷_}
 use lib.Dec.{leb, eqb}
 use borrow.Author.Tests.{le-leb}
 use Rattle.sise_util.proofs.Ranges.{split, both}
-use Rattle.sise_serializer.specs.Serializer.{Style, Written, Answer, accepted, refused, limit, deepest, isSound, freshSerializer, last}
+use Rattle.sise_serializer.specs.Serializer.{Style, Written, limit, deepest, isSound, freshSerializer, last}
 use Rattle.sise_serializer.specs.declared.serializer.Phase.the-variants.{Finished}
 use Rattle.sise_serializer.specs.declared.serializer.Serializer.{Serializer}
 use Rattle.sise_layout.specs.Calls.{Call, step, Styled, answersOf, isNot11}

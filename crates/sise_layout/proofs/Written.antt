@@ -1,12 +1,12 @@
 -- A run by the bytes that it writes, the buffer left aside; and the end of a text: a last break, or nothing.
 -- Assumes nothing.
-use Prim.Native.Nat.{ℕ, _+_, _*_, _≤_}
+use Prim.Native.Nat.{ℕ, _+_}
 use native.Mathlib.Omega.{arith}
 use mathlib.Core.Path.{_≡_, refl, ap, _∙_}
 use mathlib.Core.Bool.{Bool, true, false}
-use mathlib.Core.List.{List, [], _∷_, _++_, append-assoc, append-nil}
-use lib.ListN.{length, length-append}
-use Rattle.sise_serializer.specs.Serializer.{Style, Written, last, freshSerializer}
+use mathlib.Core.List.{List, [], _∷_, _++_, append-assoc}
+use lib.ListN.{length}
+use Rattle.sise_serializer.specs.Serializer.{Style, last, freshSerializer}
 use Rattle.sise_serializer.specs.declared.serializer.Phase.the-variants.{Finished, Done}
 use Rattle.sise_serializer.specs.declared.serializer.Serializer.{Serializer}
 use Rattle.sise_layout.specs.Calls.{Call, Placed, itemOf, step, allBlank, Blank}

@@ -1,14 +1,13 @@
 -- Reading a text by whole lists of calls, and what it is that it gives certain items (document 01, "Reading a text is any number of `next_item`
 -- calls ...").
 -- Assumes nothing.
-use Prim.Native.Nat.{ℕ, zero, suc, _-_, _≤_, _<_}
+use Prim.Native.Nat.{ℕ, _-_, _≤_, _<_}
 use mathlib.Core.Path.{_≡_}
 use mathlib.Core.List.{List, [], _∷_, _++_, map}
 use lib.ListN.{length, take, drop, replicate}
 use Rattle.sise_parser.specs.Refusals.{refusal}
 use Rattle.sise_parser.specs.Reader as reader
 use Rattle.sise_parser.specs.Reader.{freshReader, answersFrom, finishReading, refusedWith, ended, notEnded, afterCalls}
-use Rattle.sise_parser.specs.declared.reader.Reader.{Reader}
 use Rattle.sise_parser.specs.declared.reader.ParsedItem.the-variants.{Atom, ListStart, ListEnd}
 use Rattle.sise_layout.specs.Calls.{Item, atom, listStart, listEnd, Placed}
 

@@ -1,10 +1,10 @@
 -- The same steps where the code tells a byte by its value: each says which class it has.
 -- Assumes nothing.
 use mathlib.Core.Path.{_≡_, refl, sym, ap, _∙_}
-use mathlib.Core.Bool.{Bool, true, false, false≢true, true≢false}
+use mathlib.Core.Bool.{Bool, true, false}
 use mathlib.Core.Logic.{_⊎_, inl, inr, ⊎-elim}
 use mathlib.Core.List.{List, [], _∷_}
-use Prim.Native.Nat.{ℕ, _+_, _-_, _≤_, _<_}
+use Prim.Native.Nat.{ℕ, _+_, _-_, _<_}
 use lib.Dec.{eqb}
 use lib.ListN.{length, drop, getD}
 use borrow.Author.Tests.{eq-eqb, ne-eqb, eqb-true, eqb-false}
@@ -12,7 +12,7 @@ use types.Run.{OneOf}
 use Rattle.sise_util.specs.Chars.{oneOf, isAtomChr}
 use Rattle.sise_util.specs.Classes.{classOf, classNumber}
 use Rattle.sise_util.proofs.ClassLaws.{space-number, tab-number, line-end-number, semicolon-number, left-number, right-number, quote-number, atom-number}
-use Rattle.sise_parser.specs.Lexer.{Lexed, found, opening, closing, atom, wrong, between, comment, plain, string}
+use Rattle.sise_parser.specs.Lexer.{found, opening, closing, atom, wrong, between, comment, plain, string}
 use Rattle.sise_parser.specs.Plain.{skipBlanks, atomRun}
 use Rattle.sise_parser.specs.Meaning.{Reads}
 use Rattle.sise_parser.proofs.Steps as steps

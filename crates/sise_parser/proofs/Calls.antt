@@ -6,15 +6,15 @@ use mathlib.Core.List.{List, [], _∷_}
 use Prim.Native.Nat.{ℕ, _+_, _-_, _≤_, _<_}
 use native.Mathlib.Omega.{arith}
 use lib.Dec.{leb}
-use lib.ListN.{length, drop, getD}
+use lib.ListN.{length, getD}
 use borrow.Author.Tests.{leb-true, le-leb, ne-eqb}
 use types.Run.{OneOf}
 use denote.Enum.Declared.{tagOf}
 use mathlib.Core.Logic.{⊎-elim}
-use Rattle.sise_util.proofs.Ranges.{split, and-first, and-second}
+use Rattle.sise_util.proofs.Ranges.{and-first, and-second}
 use Rattle.sise_parser.specs.Refusals.{Refusal, refusal}
-use Rattle.sise_parser.specs.Lexer.{Lexed, found, bad, Token, eof}
-use Rattle.sise_parser.specs.Reader.{reader, listsFit, isSound, item, refused, Next, next, refusedWith, tokenAt, inBeginning, inParsing, nextIn, nextItem, Ending, ended, notEnded, endsAt, finishIn, finishReading}
+use Rattle.sise_parser.specs.Lexer.{Lexed, bad}
+use Rattle.sise_parser.specs.Reader.{reader, listsFit, isSound, item, refused, next, refusedWith, tokenAt, inBeginning, inParsing, nextIn, nextItem, notEnded, endsAt, finishIn, finishReading}
 use Rattle.sise_parser.proofs.reader.Phase as phases
 use Rattle.sise_parser.specs.declared.reader.Phase.{Phase}
 use Rattle.sise_parser.specs.declared.reader.Phase.the-variants.{Beginning, Parsing, Finishing}

@@ -1,9 +1,8 @@
 -- A call on a text behind another answers as on the text alone, with every place moved.
 -- Assumes nothing.
-use mathlib.Core.Path.{_≡_, refl, sym, ap, _∙_, subst}
-use mathlib.Core.Bool.{Bool, true, false, _&&_, cond}
-use mathlib.Core.Logic.{⊎-elim}
-use mathlib.Core.List.{List, [], _∷_, _++_}
+use mathlib.Core.Path.{_≡_, refl, sym, ap, _∙_}
+use mathlib.Core.Bool.{Bool, true, false, cond}
+use mathlib.Core.List.{List, _∷_, _++_}
 use Prim.Native.Nat.{ℕ, _+_, _-_, _≤_, _<_}
 use native.Mathlib.Omega.{arith}
 use lib.Dec.{eqb, ltb, lit<}
@@ -12,10 +11,9 @@ use borrow.Author.Tests.{le-leb, lt-ltb}
 use Rattle.sise_util.specs.Utf8.{character}
 use Rattle.sise_util.specs.declared.utf8.Character.{Character}
 use Rattle.sise_util.specs.declared.utf8.Character.the-variants.{Well, Ill}
-use Rattle.sise_util.proofs.Ranges.{split}
 use Rattle.sise_parser.specs.Refusals.{Refusal, refusal}
 use Rattle.sise_parser.specs.Lexer.{Lexed, found, bad, eof, opening, closing, atom, wrong, between}
-use Rattle.sise_parser.specs.Reader.{reader, listsFit, isSound, Answer, item, refused, Next, next, refusedWith, closed, tokenAt, inBeginning, inParsing, nextItem}
+use Rattle.sise_parser.specs.Reader.{reader, isSound, Answer, item, refused, Next, next, closed, tokenAt, inBeginning, inParsing, nextItem}
 use Rattle.sise_parser.specs.declared.reader.Phase.{Phase}
 use Rattle.sise_parser.specs.declared.reader.Phase.the-variants.{Beginning, Parsing, Finishing}
 use Rattle.sise_parser.specs.declared.reader.Reader.{Reader}

@@ -2,24 +2,23 @@
 -- valid UTF-8 no call is refused with 8.
 -- Assumes nothing.
 use mathlib.Core.Path.{_≡_, refl, sym, ap, _∙_, subst}
-use mathlib.Core.Bool.{Bool, true, false, _&&_, cond}
-use mathlib.Core.List.{List, [], _∷_}
+use mathlib.Core.Bool.{Bool, true, false, cond}
+use mathlib.Core.List.{List}
 use Prim.Native.Nat.{ℕ, zero, suc, _+_, _-_, _≤_, _<_, zero-le}
 use native.Mathlib.Nat.{le-refl}
 use native.Mathlib.Omega.{arith}
-use lib.Dec.{eqb, leb, lit<}
+use lib.Dec.{eqb}
 use lib.ListN.{length, drop}
-use borrow.Author.Tests.{le-leb, leb-true, eq-eqb, eqb-true, ne-eqb, eqb-false}
+use borrow.Author.Tests.{le-leb, leb-true, eqb-true, eqb-false}
 use Rattle.sise_util.proofs.Ranges.{split}
 use Rattle.sise_util.specs.Utf8.{Utf8Octets}
-use Rattle.sise_parser.specs.Refusals.{Refusal}
-use Rattle.sise_parser.specs.Lexer.{Lexed, found, bad, Token, eof, opening, closing, atom, between}
-use Rattle.sise_parser.specs.Reader.{reader, freshReader, listsFit, isSound, Answer, item, refused, Next, next, refusedWith, closed, tokenAt, inBeginning, inParsing, nextIn, nextItem, afterCalls, Ending, ended, notEnded, endsAt, finishIn, finishReading}
+use Rattle.sise_parser.specs.Lexer.{Lexed, found, bad, eof, opening, closing, atom, between}
+use Rattle.sise_parser.specs.Reader.{reader, freshReader, listsFit, isSound, Answer, item, refused, Next, closed, tokenAt, inBeginning, inParsing, nextItem, afterCalls, Ending, ended, notEnded, endsAt, finishIn, finishReading}
 use Rattle.sise_parser.specs.declared.reader.Phase.{Phase}
 use Rattle.sise_parser.specs.declared.reader.Phase.the-variants.{Beginning, Parsing, Finishing}
 use Rattle.sise_parser.specs.declared.reader.Reader.{Reader}
-use Rattle.sise_parser.proofs.Placed.{Placed, Spans, token-placed}
-use Rattle.sise_parser.proofs.Calls.{Sound, sound-parts, next-unsound, next-finishing, next-beginning, next-parsing}
+use Rattle.sise_parser.proofs.Placed.{Placed, token-placed}
+use Rattle.sise_parser.proofs.Calls.{Sound, sound-parts, next-finishing, next-beginning, next-parsing}
 use Rattle.sise_parser.proofs.Utf8Borders.{Border, Bordered, token-border}
 
 -- an item was read

@@ -1,10 +1,10 @@
 -- Reading a text behind another is reading it alone, with every place moved: what the lexer says depends on the bytes that are left, and on the position only
 -- as an offset.
 -- Assumes nothing.
-use mathlib.Core.Path.{_≡_, refl, sym, ap, _∙_}
+use mathlib.Core.Path.{_≡_, refl, ap, _∙_}
 use mathlib.Core.List.{List, [], _∷_, _++_}
 use Prim.Native.Nat.{ℕ, _+_, _-_}
-use native.Mathlib.Nat.{add-assoc, add-zero}
+use native.Mathlib.Nat.{add-assoc}
 use native.Mathlib.Omega.{arith}
 use lib.ListN.{length, drop}
 use lib.Seq.{drop-append-add}
@@ -12,8 +12,8 @@ use Rattle.sise_util.specs.Classes.{Class, space, quote, tab, atomChr, lineEnd,
 use Rattle.sise_util.specs.Utf8.{character}
 use Rattle.sise_util.specs.declared.utf8.Character.{Character}
 use Rattle.sise_util.specs.declared.utf8.Character.the-variants.{Well, Ill}
-use Rattle.sise_parser.specs.Refusals.{Refusal, refusal}
-use Rattle.sise_parser.specs.Lexer.{Lexed, found, bad, eof, opening, closing, atom, unfinished, wrong, between, comment, plain, string, escape}
+use Rattle.sise_parser.specs.Refusals.{refusal}
+use Rattle.sise_parser.specs.Lexer.{Lexed, found, bad, opening, closing, atom, wrong, between, comment, plain, string, escape}
 
 -- each place k further on; every refusal of the lexer has a place
 abbrev pub moved : ℕ → Lexed → Lexed

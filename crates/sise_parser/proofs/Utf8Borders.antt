@@ -1,23 +1,21 @@
 -- On valid UTF-8 no character is refused as ill formed, and every position lies on a border between characters.
 -- Assumes nothing.
 use mathlib.Core.Path.{_≡_, refl, sym, ap, _∙_, subst}
-use mathlib.Core.Bool.{Bool, true, false, true≢false}
+use mathlib.Core.Bool.{false, true≢false}
 use mathlib.Core.Logic.{⊎-elim}
-use mathlib.Core.List.{List, [], _∷_}
-use Prim.Native.Nat.{ℕ, suc, _+_, _-_, _≤_, _<_}
+use mathlib.Core.List.{List, _∷_}
+use Prim.Native.Nat.{ℕ, suc, _+_, _-_, _<_}
 use native.Mathlib.Omega.{arith}
-use native.Mathlib.Numerals.{add-one}
 use lib.Dec.{ltb, lit<}
 use lib.ListN.{length, drop}
 use lib.Seq.{drop-drop}
 use borrow.Author.Tests.{ltb-true, ltb-false}
-use Rattle.sise_util.specs.Classes.{Class, classOf}
-use Rattle.sise_util.specs.Utf8.{character, Utf8Octets, none}
-use Rattle.sise_util.specs.declared.utf8.Character.the-variants.{Well, Ill}
+use Rattle.sise_util.specs.Classes.{classOf}
+use Rattle.sise_util.specs.Utf8.{Utf8Octets}
+use Rattle.sise_util.specs.declared.utf8.Character.the-variants.{Well}
 use Rattle.sise_util.proofs.Ranges.{split}
 use Rattle.sise_util.proofs.ClassLaws.{no-class}
 use Rattle.sise_util.proofs.Utf8Laws.{ascii, ValidStep, valid-step}
-use Rattle.sise_parser.specs.Refusals.{refusal}
 use Rattle.sise_parser.specs.Lexer.{Lexed, found, bad, wrong, between}
 use Rattle.sise_parser.proofs.Induction.{isOther, Cases, in-between}
 

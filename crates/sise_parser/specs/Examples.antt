@@ -1,16 +1,14 @@
 -- Document 01's worked examples of the reader, by computation: the table of refusals, rows 1 to 10; the slips that it names; the items of the worked text.
 -- Assumes nothing.
-use Prim.Native.Nat.{ℕ, zero, suc}
+use Prim.Native.Nat.{ℕ}
 use mathlib.Core.Path.{_≡_, refl}
 use mathlib.Core.List.{List, [], _∷_}
-use Rattle.sise_util.specs.Chars.{isAtomChr, within}
+use Rattle.sise_util.specs.Chars.{within}
 use Rattle.sise_util.specs.Classes.{classOf}
 use Rattle.sise_util.specs.Utf8.{character, byRows, forms, follow}
 use Rattle.sise_parser.specs.Refusals.{Refusal, refusal}
 use Rattle.sise_parser.specs.Lexer.{wrong, between, comment, plain, string, escape}
-use Rattle.sise_parser.specs.Reader.{Answer, item, refused, Next, freshReader, isSound, tokenAt, inBeginning, inParsing, nextIn, nextItem, afterCalls, answersFrom, Ending, ended, notEnded, endsAt, finishIn, finishReading}
-use Rattle.sise_parser.specs.declared.reader.Reader.{Reader}
-use Rattle.sise_parser.specs.declared.reader.ParsedItem.{ParsedItem}
+use Rattle.sise_parser.specs.Reader.{Answer, item, refused, freshReader, isSound, tokenAt, inBeginning, inParsing, nextIn, nextItem, afterCalls, answersFrom, Ending, ended, notEnded, endsAt, finishIn, finishReading}
 use Rattle.sise_parser.specs.declared.reader.ParsedItem.the-variants.{Atom, ListStart, ListEnd}
 
 -- what a call of next_item, or finish, answers after k calls

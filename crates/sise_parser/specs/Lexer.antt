@@ -2,9 +2,8 @@
 -- Assumes nothing.
 use Prim.Native.Nat.{ℕ, _+_, _-_}
 use mathlib.Core.List.{List, [], _∷_}
-use Rattle.sise_util.specs.Classes.{Class, space, semicolon, left, right, atomChr, printable, quote, backslash, tab, lineEnd, other, classOf}
+use Rattle.sise_util.specs.Classes.{space, semicolon, left, right, atomChr, printable, quote, backslash, tab, lineEnd, other, classOf}
 use Rattle.sise_util.specs.Utf8.{character}
-use Rattle.sise_util.specs.declared.utf8.Character.{Character}
 use Rattle.sise_util.specs.declared.utf8.Character.the-variants.{Well, Ill}
 use Rattle.sise_parser.specs.Refusals.{Refusal, refusal}
 

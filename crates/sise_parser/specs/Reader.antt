@@ -6,7 +6,7 @@ use mathlib.Core.List.{List, [], _∷_}
 use lib.Dec.{leb, eqb}
 use lib.ListN.{length, drop, take}
 use Rattle.sise_parser.specs.Refusals.{Refusal, refusal}
-use Rattle.sise_parser.specs.Lexer.{Lexed, found, bad, Token, eof, opening, closing, atom, between}
+use Rattle.sise_parser.specs.Lexer.{Lexed, found, bad, eof, opening, closing, atom, between}
 use Rattle.sise_parser.specs.declared.reader.Phase.{Phase}
 use Rattle.sise_parser.specs.declared.reader.Phase.the-variants.{Beginning, Parsing, Finishing}
 use Rattle.sise_parser.specs.declared.reader.Reader.{Reader}

@@ -1,13 +1,12 @@
 -- Worked examples of the definitions, by computation (document 01, "Refusals").
 -- Assumes nothing.
-use Prim.Native.Nat.{ℕ}
 use mathlib.Core.Path.{_≡_, refl}
-use mathlib.Core.Bool.{true, false}
+use mathlib.Core.Bool.{false}
 use mathlib.Core.List.{List, [], _∷_}
 use Rattle.sise_util.specs.Chars.{within, oneOf, isAtomChr}
 use Rattle.sise_util.specs.Classes.{classOf}
 use Rattle.sise_util.specs.Atom.{isAtom, outside, inside, escaped}
-use Rattle.sise_serializer.specs.Serializer.{Style, style, Answer, refused, accepted, Written, freshSerializer, isSound, place, firstAtom, firstList, laid, innerAs, inner, phaseAfter, flagsAfter, closeAs, close, last, putIn, putAtom, beginIn, beginList, endIn, endList, finishIn, finishWriting}
+use Rattle.sise_serializer.specs.Serializer.{Style, style, Answer, refused, accepted, freshSerializer, isSound, place, firstAtom, putIn, putAtom, endIn, endList, finishIn, finishWriting}
 
 -- LF and two spaces
 unfoldable pub house : Style

@@ -1,10 +1,9 @@
 -- How many items a text begins with (document 01, "parser.rs: the reader").
 -- Assumes nothing.
 use Prim.Native.Nat.{ℕ, zero, suc, _+_}
-use mathlib.Core.Bool.{true, false}
 use mathlib.Core.List.{List}
 use lib.ListN.{length}
-use Rattle.sise_parser.specs.Reader.{Answer, item, refused, Next, freshReader, nextItem}
+use Rattle.sise_parser.specs.Reader.{item, refused, freshReader, nextItem}
 use Rattle.sise_parser.specs.declared.reader.Reader.{Reader}
 
 -- the items of at most k calls, up to the first refusal

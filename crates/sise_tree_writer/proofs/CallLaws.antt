@@ -8,29 +8,20 @@ use mathlib.Core.Bool.{Bool, true, false, cond, false≢true}
 use mathlib.Core.List.{List, [], _∷_, _++_}
 use lib.Dec.{leb}
 use lib.ListN.{length, take, drop, length-append, length-take, length-drop}
-use types.Run.{OneOf}
-use denote.Enum.Declared.{tagOf}
 use borrow.Author.Tests.{leb-true, leb-false, eqb-true, eq-eqb, ne-eqb}
 use Rattle.sise_util.specs.Atom.{isAtom, isAtomPrefix}
 use Rattle.sise_util.proofs.Ranges.{split, and-first, and-second}
 use Rattle.sise_parser.specs.Reader.{partOf}
 use Rattle.sise_serializer.specs.Bytes.{pasted}
 use Rattle.sise_serializer.specs.Serializer as writer
-use Rattle.sise_serializer.specs.Serializer.{Style, Piece, Written, answerAs, numberOf, deepest, listsFit, isSound, firstAtom, firstList, inner, innerAs, close, closeAs, last, finishWriting}
-use Rattle.sise_serializer.specs.Steps.{joined, Steps}
-use Rattle.sise_serializer.specs.declared.steps.Progress.{Progress}
-use Rattle.sise_serializer.specs.declared.steps.Step.{Step}
+use Rattle.sise_serializer.specs.Serializer.{Style, Piece, Written, deepest, listsFit, isSound, firstAtom, firstList, inner, innerAs, close, closeAs, last}
 use Rattle.sise_serializer.specs.declared.serializer.Phase.{Phase}
 use Rattle.sise_serializer.specs.declared.serializer.Phase.the-variants.{Beginning}
 use Rattle.sise_serializer.specs.declared.serializer.Serializer.{Serializer}
-use Rattle.sise_serializer.specs.declared.serializer.Put.{Put}
-use Rattle.sise_serializer.specs.declared.serializer.Put.the-variants.{At, UnsoundRecord, InvalidAtom, NoListToEnd, WritingFinished, WritingNotFinished, TooDeep, NoRoom}
 use Rattle.sise_serializer.proofs.serializer.Put as puts
-use Rattle.sise_serializer.proofs.Bytes.{pasted-none}
 use Rattle.sise_serializer.proofs.Does.{put-unsound, begin-unsound, end-unsound, finish-unsound}
 use Rattle.sise_serializer.proofs.Sound.{sound}
 use Rattle.sise_layout.specs.Calls.{Call, putAtomCall, beginListCall, endListCall, finishCall, step, run}
-use Rattle.sise_layout.proofs.Running.{refusal-word}
 use Rattle.sise_layout.proofs.Buffers.{pasted-length}
 use Rattle.sise_layout.proofs.Verdicts.{Puts, atomAlone, atomInside, listFirst, listInside, listClosed, textEnded, Verdict, refuses, puts, verdict}
 use Rattle.sise_tree.specs.Tree.{kind, first, second}

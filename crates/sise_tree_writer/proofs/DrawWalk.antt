@@ -1,6 +1,6 @@
 -- The drawing walk: what a turn draws is the piece of its call, which is accepted because all of the tree's calls fit; so the walk is the writer's.
 -- Assumes nothing.
-use Prim.Native.Nat.{ℕ, _+_, _-_, _*_, _≤_, _<_, min}
+use Prim.Native.Nat.{ℕ, _+_, _-_, _*_, _≤_, _<_}
 use native.Mathlib.Omega.{arith}
 use mathlib.Core.Path.{_≡_, refl, sym, ap, subst, _∙_}
 use mathlib.Core.Bool.{Bool, true, false, _||_, cond, false≢true}
@@ -9,11 +9,11 @@ use mathlib.Core.List.{List, [], _∷_, append-nil}
 use lib.Dec.{ltb, eqb}
 use lib.ListN.{length}
 use borrow.Author.Tests.{lt-ltb, eqb-true, eqb-false, ne-eqb}
-use Rattle.sise_util.proofs.Ranges.{split, and-first}
+use Rattle.sise_util.proofs.Ranges.{split}
 use Rattle.sise_parser.specs.Reader.{partOf}
 use Rattle.sise_serializer.specs.Bytes.{pasted}
 use Rattle.sise_serializer.specs.Serializer as writer
-use Rattle.sise_serializer.specs.Serializer.{Style, laid, inner, innerAs, close, closeAs, last, firstAtom, firstList, phaseAfter, Piece, Written, deepest, limit, isSound}
+use Rattle.sise_serializer.specs.Serializer.{Style, laid, inner, innerAs, close, closeAs, last, firstAtom, firstList, phaseAfter, Piece, Written, deepest, isSound}
 use Rattle.sise_serializer.specs.Steps.{joined}
 use Rattle.sise_serializer.specs.declared.serializer.Phase.{Phase}
 use Rattle.sise_serializer.specs.declared.serializer.Phase.the-variants.{Beginning, Writing, Finished, Done}
@@ -22,7 +22,7 @@ use Rattle.sise_serializer.specs.declared.serializer.Put.the-variants.{At}
 use Rattle.sise_serializer.specs.declared.steps.Progress.{Progress}
 use Rattle.sise_serializer.specs.declared.steps.Step.{Step}
 use Rattle.sise_serializer.proofs.Sound.{sound, writing-lists}
-use Rattle.sise_layout.specs.Calls.{largest, isAccepted, Call, putAtomCall, beginListCall, endListCall, finishCall, step, run}
+use Rattle.sise_layout.specs.Calls.{largest, Call, putAtomCall, beginListCall, endListCall, finishCall, step, run}
 use Rattle.sise_layout.proofs.Verdicts.{Puts, atomAlone, atomInside, listFirst, listInside, listClosed, textEnded}
 use Rattle.sise_tree.specs.Tree.{Node, atom, list, kind, first, second, span}
 use Rattle.sise_tree.specs.Decision.{decide}

@@ -1,18 +1,16 @@
 -- What a turn of the drawing walk draws is the piece of its call, and its pen and flags are those of the record after it.
 -- Assumes nothing.
 use Prim.Native.Nat.{ℕ, _+_, _-_, _≤_, _<_}
-use native.Mathlib.Numerals.{add-one}
 use native.Mathlib.Omega.{arith}
 use mathlib.Core.Path.{_≡_, sym, ap, _∙_}
 use mathlib.Core.Bool.{Bool, true, false, _||_, false≢true}
-use mathlib.Core.List.{List, [], _∷_, _++_, append-assoc}
+use mathlib.Core.List.{List}
 use lib.Dec.{eqb}
-use lib.ListN.{length, getD, set, take, drop}
-use lib.Seq.{set-getD, set-split}
+use lib.ListN.{length, getD, set}
+use lib.Seq.{set-getD}
 use Rattle.sise_util.proofs.Ranges.{split}
-use Rattle.sise_serializer.specs.Bytes.{pasted}
 use Rattle.sise_serializer.specs.Serializer.{Style, deepest, flagsAfter}
-use Rattle.sise_serializer.proofs.Bytes.{layout-length, pasted-more}
+use Rattle.sise_serializer.proofs.Bytes.{layout-length}
 use Rattle.sise_tree_writer.specs.Drawing.{around, thresholdAt, breaksAt, leadOf, lineOf, leadAt}
 use Rattle.sise_tree_writer.specs.declared.write.Pen.{Pen}
 

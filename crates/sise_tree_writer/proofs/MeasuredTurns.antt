@@ -6,25 +6,25 @@ use native.Mathlib.Omega.{arith}
 use mathlib.Core.Path.{_≡_, refl, sym, ap, subst, _∙_}
 use mathlib.Core.Bool.{Bool, true, false, cond, false≢true}
 use mathlib.Core.List.{List, [], _∷_}
-use lib.Dec.{leb, ltb, eqb}
+use lib.Dec.{leb, eqb}
 use lib.ListN.{length, take, drop, length-take, length-drop}
-use borrow.Author.Tests.{le-leb, lt-leb, leb-true, leb-false, lt-ltb, eq-eqb, ne-eqb, eqb-true, eqb-false}
+use borrow.Author.Tests.{le-leb, lt-leb, leb-true, leb-false, eqb-true, eqb-false}
 use Rattle.sise_util.specs.Atom.{isAtom}
 use Rattle.sise_util.proofs.Ranges.{split}
 use Rattle.sise_parser.specs.Reader.{partOf}
 use Rattle.sise_parser.proofs.Parts.{part-inside, part-outside}
 use Rattle.sise_serializer.specs.Serializer as writer
-use Rattle.sise_serializer.specs.Serializer.{Style, Piece, Written, limit, deepest, isSound, place, firstAtom, firstList, inner, close, putIn, beginIn, endIn, putAtom, beginList, endList}
+use Rattle.sise_serializer.specs.Serializer.{Style, Piece, limit, deepest, isSound, place, firstAtom, firstList, inner, close, putIn, beginIn, endIn}
 use Rattle.sise_serializer.specs.declared.serializer.Phase.{Phase}
 use Rattle.sise_serializer.specs.declared.serializer.Phase.the-variants.{Beginning, Writing, Finished, Done}
 use Rattle.sise_serializer.specs.declared.serializer.Serializer.{Serializer}
 use Rattle.sise_serializer.proofs.Does.{put-sound, put-in, begin-sound, begin-inner, end-sound}
-use Rattle.sise_layout.specs.Calls.{Call, putAtomCall, beginListCall, endListCall, finishCall, step}
+use Rattle.sise_layout.specs.Calls.{Call, putAtomCall, beginListCall, endListCall, step}
 use Rattle.sise_layout.proofs.Verdicts.{endOf}
 use Rattle.sise_tree.specs.Tree.{kind, first, second}
 use Rattle.sise_tree_writer.specs.SerializeTree.{isOver}
 use Rattle.sise_tree_writer.specs.Writing.{turnCall, Ready}
-use Rattle.sise_tree_writer.specs.Measuring.{clip, firstAfter, itemAfter, closeAfter, nodeAfter, turnAfter, beginsList, tokenSize}
+use Rattle.sise_tree_writer.specs.Measuring.{clip, closeAfter, nodeAfter, turnAfter, beginsList, tokenSize}
 use Rattle.sise_tree_writer.proofs.CallLaws.{call-list, call-atom}
 use Rattle.sise_tree_writer.proofs.SoundSteps.{in-writing}
 use Rattle.sise_tree_writer.proofs.Sizes.{Sized, first-atom-sized, first-list-sized, inner-sized, close-sized}

@@ -4,15 +4,14 @@
 use Prim.Native.Nat.{ℕ, _+_, _-_, _*_, _≤_, _<_, min}
 use native.Mathlib.Omega.{arith}
 use mathlib.Core.Path.{_≡_, refl, sym, ap, subst, _∙_}
-use mathlib.Core.Bool.{Bool, true, false, _&&_, _||_, cond, false≢true}
+use mathlib.Core.Bool.{Bool, true, false, _||_, cond, false≢true}
 use mathlib.Core.Option.{some, Option·some-injective}
-use mathlib.Core.List.{List, [], _∷_}
+use mathlib.Core.List.{List, []}
 use lib.Dec.{leb, ltb, eqb}
 use lib.ListN.{length, replicate, length-replicate}
-use borrow.Author.Tests.{ltb-true, ltb-false, leb-true, leb-false, lt-leb, le-leb, eqb-true, eqb-false, eq-eqb, ne-eqb}
+use borrow.Author.Tests.{ltb-true, ltb-false, leb-true, leb-false, eqb-true, eqb-false, eq-eqb}
 use Rattle.sise_util.specs.Atom.{isAtom}
 use Rattle.sise_util.proofs.Ranges.{split, and-first, and-second, both}
-use Rattle.sise_parser.specs.Reader.{partOf}
 use Rattle.sise_serializer.specs.Serializer as writer
 use Rattle.sise_serializer.specs.Serializer.{Style, limit, deepest, isSound, putIn, beginIn, endIn, finishIn, last}
 use Rattle.sise_serializer.specs.Steps.{joined}
@@ -22,7 +21,6 @@ use Rattle.sise_serializer.specs.declared.serializer.Phase.the-variants.{Beginn
 use Rattle.sise_serializer.specs.declared.serializer.Put.the-variants as put
 use Rattle.sise_serializer.specs.declared.serializer.Serializer.{Serializer}
 use Rattle.sise_serializer.specs.declared.steps.Progress.{Progress}
-use Rattle.sise_serializer.specs.declared.steps.Step.{Step}
 use Rattle.sise_serializer.proofs.Sound.{sound, small, writing-lists}
 use Rattle.sise_serializer.proofs.Does.{put-sound, put-in, begin-sound, begin-too-deep, end-sound, finish-sound}
 use Rattle.sise_layout.specs.Calls.{largest, Call, putAtomCall, beginListCall, endListCall, finishCall, step, run}

@@ -1,11 +1,11 @@
 -- What the measuring walk's numbers come to: flags that were off stay off.
 -- Assumes nothing.
 use Prim.Native.Nat.{ℕ, _-_}
-use mathlib.Core.Path.{_≡_, refl, sym, ap, _∙_}
-use mathlib.Core.Bool.{Bool, true, false, cond}
+use mathlib.Core.Path.{_≡_, sym, ap, _∙_}
+use mathlib.Core.Bool.{Bool, true, false}
 use mathlib.Core.List.{List}
 use lib.Dec.{eqb}
-use lib.ListN.{length, getD, set}
+use lib.ListN.{getD, set}
 use lib.Seq.{set-getD}
 use Rattle.sise_util.proofs.Ranges.{split}
 use Rattle.sise_serializer.specs.Serializer.{flagsAfter}
@@ -13,7 +13,6 @@ use Rattle.sise_serializer.specs.declared.serializer.Phase.{Phase}
 use Rattle.sise_serializer.specs.declared.serializer.Serializer.{Serializer}
 use Rattle.sise_serializer.specs.declared.steps.Progress.{Progress}
 use Rattle.sise_tree_writer.specs.Measuring.{nodeAfter, turnAfter, finishIn, finishAfter}
-use Rattle.sise_tree_writer.specs.declared.measure.Measured.{Measured}
 use Rattle.sise_tree_writer.specs.declared.measure.Measured.the-variants.{Fits}
 
 pub flags-kept : (flags : List Bool) (n : ℕ) → getD flags n false ≡ false → flagsAfter flags n false ≡ flags

@@ -3,7 +3,7 @@
 use Prim.Native.Nat.{ℕ, _≤_, _<_, min}
 use native.Mathlib.Omega.{arith}
 use mathlib.Core.Path.{_≡_, sym, ap, _∙_}
-use mathlib.Core.Bool.{true, false, _&&_, false≢true}
+use mathlib.Core.Bool.{true, _&&_, false≢true}
 use mathlib.Core.List.{List, _∷_}
 use borrow.Author.Tests.{le-leb, lt-leb}
 use Rattle.sise_util.proofs.Ranges.{split, and-first}

@@ -3,8 +3,8 @@
 use Prim.Native.Nat.{ℕ, _+_, _-_, min}
 use native.Mathlib.Omega.{arith}
 use mathlib.Core.Path.{_≡_, refl, sym, ap, ap₂, _∙_, subst}
-use mathlib.Core.Bool.{Bool, true, false, false≢true}
-use mathlib.Core.List.{List, [], _∷_, _++_, append-assoc, map, map-append, nil≢cons, head-eq-of-cons-eq, tail-eq-of-cons-eq}
+use mathlib.Core.Bool.{Bool, true, false≢true}
+use mathlib.Core.List.{List, [], _∷_, _++_, append-assoc, map-append, nil≢cons, head-eq-of-cons-eq, tail-eq-of-cons-eq}
 use lib.Dec.{leb}
 use lib.ListN.{length, take, drop, length-take, length-drop}
 use borrow.Author.Tests.{leb-false}
@@ -12,17 +12,17 @@ use Rattle.sise_util.proofs.Ranges.{split}
 use Rattle.sise_parser.specs.declared.reader.Reader.{Reader}
 use Rattle.sise_parser.specs.Reader.{partOf, nextItem, next, freshReader, finishReading, ended}
 use Rattle.sise_layout.specs.Reading.{asRead, Stands}
-use Rattle.sise_serializer.specs.Serializer.{Style, Written, Answer, accepted, refused, freshSerializer}
+use Rattle.sise_serializer.specs.Serializer.{Style, Answer, accepted, refused, freshSerializer}
 use Rattle.sise_serializer.specs.declared.serializer.Serializer.{Serializer}
 use Rattle.sise_layout.specs.Calls.{largest, isAccepted, Call, putAtomCall, beginListCall, endListCall, finishCall, step, Item, atom as Item·atom, listStart, listEnd, Placed, placed, itemAt, itemOf, itemsOf, writing, textOf, Blank}
-use Rattle.sise_layout.proofs.Written.{Writes, writes}
+use Rattle.sise_layout.proofs.Written.{writes}
 use Rattle.sise_layout.proofs.Ended.{finished-done}
 use Rattle.sise_layout.proofs.ReadBack.{follows}
 use Rattle.sise_layout.proofs.Buffers.{same-text}
 use Rattle.sise_layout.proofs.Following.{Follows, over, goes}
 use Rattle.sise_serializer.specs.declared.serializer.Phase.the-variants.{Done}
 use Rattle.sise_tree.specs.Descent.{ReadsNode, one, many, ReadsNodes, none, more}
-use Rattle.sise_tree_writer.specs.Alike.{Tree, leaf, branch, Trees, nothing, _also_, treeOf, treesOf, ReadsAs}
+use Rattle.sise_tree_writer.specs.Alike.{Tree, leaf, branch, Trees, _also_, treeOf, treesOf, ReadsAs}
 use Rattle.sise_tree.proofs.TreeLaws.{anded}
 use Rattle.sise_tree.proofs.Descent.{descent-read}
 use Rattle.sise_tree.specs.Tree.{Node, atom, list, Nodes, empty, _then_}

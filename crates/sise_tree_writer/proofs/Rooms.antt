@@ -4,7 +4,7 @@
 use Prim.Native.Nat.{ℕ, _+_, _≤_, min}
 use native.Mathlib.Omega.{arith}
 use mathlib.Core.Path.{_≡_, refl, sym, ap, _∙_}
-use mathlib.Core.Bool.{true, false, false≢true}
+use mathlib.Core.Bool.{true, false≢true}
 use mathlib.Core.List.{List, [], _∷_, _++_}
 use lib.Dec.{leb}
 use lib.ListN.{length, length-append}
@@ -17,7 +17,7 @@ use Rattle.sise_serializer.specs.declared.serializer.Serializer.{Serializer}
 use Rattle.sise_layout.specs.Calls.{isAccepted, Call, step, run, writing, textOf}
 use Rattle.sise_layout.proofs.Buffers.{pasted-length, same-text}
 use Rattle.sise_layout.proofs.Written.{writes}
-use Rattle.sise_layout.proofs.Verdicts.{endOf, put}
+use Rattle.sise_layout.proofs.Verdicts.{endOf}
 use Rattle.sise_tree_writer.specs.SerializeTree.{fits}
 use Rattle.sise_tree_writer.proofs.CallLaws.{fits-off}
 use Rattle.sise_tree_writer.proofs.Placing.{placed, not-placed, puts-end, puts-place, put-fits, Lands, lands, lands-put, fits-lands}

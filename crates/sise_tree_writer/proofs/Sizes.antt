@@ -1,25 +1,24 @@
 -- The record after a piece, by sizes: what the measuring walk computes is what the writer's definition gives, or lies past the limit as that does. A string
 -- longer than the limit counts as one byte more than the limit.
 -- Assumes nothing.
-use Prim.Native.Nat.{ℕ, zero, suc, _+_, _-_, _*_, _≤_, _<_, min}
+use Prim.Native.Nat.{ℕ, zero, suc, _+_, _-_, _*_, _≤_, _<_}
 use native.Mathlib.Nat.{add-zero, mul-le-mul-left, mul-le-mul-right}
 use native.Mathlib.Omega.{arith}
-use mathlib.Core.Path.{_≡_, refl, sym, ap, _∙_}
-use mathlib.Core.Bool.{Bool, true, false, cond}
-use mathlib.Core.List.{List, [], _∷_, _++_}
-use lib.Dec.{ltb, eqb}
-use lib.ListN.{length, getD, set}
+use mathlib.Core.Path.{_≡_, refl, ap}
+use mathlib.Core.Bool.{Bool, true, false}
+use mathlib.Core.List.{List, [], _∷_}
+use lib.Dec.{ltb}
+use lib.ListN.{length, getD}
 use borrow.Author.Tests.{ltb-true, ltb-false, lt-ltb, le-ltb}
 use Rattle.sise_util.proofs.Ranges.{split}
-use Rattle.sise_serializer.specs.Bytes.{repeat}
-use Rattle.sise_serializer.specs.Serializer.{Style, Piece, limit, newLine, laid, firstAtom, firstList, inner, innerAs, close, closeAs, last}
+use Rattle.sise_serializer.specs.Serializer.{Style, Piece, limit, laid, firstAtom, firstList, inner, innerAs, close, closeAs, last}
 use Rattle.sise_serializer.specs.Parts.{inLine}
 use Rattle.sise_serializer.specs.declared.serializer.Phase.the-variants.{Done}
 use Rattle.sise_serializer.specs.declared.serializer.Serializer.{Serializer}
 use Rattle.sise_serializer.proofs.Bytes.{layout-length}
 use Rattle.sise_serializer.proofs.Does.{gap-new-line, gap-nothing, gap-space, inner-is, nothing-is, space-is}
 use Rattle.sise_layout.proofs.Verdicts.{endOf}
-use Rattle.sise_tree_writer.specs.Measuring.{clip, spacesBefore, itemAfter, firstAfter, closeAfterAs, closeAfter}
+use Rattle.sise_tree_writer.specs.Measuring.{clip, itemAfter, firstAfter, closeAfterAs, closeAfter}
 
 -- a piece p with a token of n bytes leads from w to v, or both lie past the limit
 pub record Sized (w : Serializer) (p : Piece) (n : ℕ) (v : Serializer) : Type 0 where

@@ -5,17 +5,17 @@ use native.Mathlib.Omega.{arith}
 use mathlib.Core.Path.{_≡_, refl, sym, ap, _∙_}
 use mathlib.Core.Bool.{Bool, true, false, cond}
 use mathlib.Core.List.{List}
-use lib.Dec.{leb, ltb, eqb}
-use lib.ListN.{getD, set}
-use borrow.Author.Tests.{le-leb, eq-eqb, ne-eqb, eqb-true, eqb-false}
+use lib.Dec.{ltb, eqb}
+use lib.ListN.{set}
+use borrow.Author.Tests.{le-leb, eqb-true, eqb-false}
 use Rattle.sise_util.proofs.Ranges.{split}
 use Rattle.sise_serializer.specs.Serializer.{limit, deepest, listsFit, lastBreak, isSound, phaseAfter, firstList}
 use Rattle.sise_serializer.specs.Parts.{addedWith, closedWith}
 use Rattle.sise_serializer.specs.declared.serializer.Phase.{Phase}
 use Rattle.sise_serializer.specs.declared.serializer.Phase.the-variants.{Beginning, Writing, Finished, Done}
 use Rattle.sise_serializer.specs.declared.serializer.Serializer.{Serializer}
-use Rattle.sise_serializer.proofs.Sound.{Checked, Sound, sound, checked-sound, writing-lists}
-use Rattle.sise_tree_writer.specs.Measuring.{spacesBefore, itemAfter, firstAfter, closeAfterAs, closeAfter, nodeAfter, turnAfter}
+use Rattle.sise_serializer.proofs.Sound.{Sound, sound, checked-sound, writing-lists}
+use Rattle.sise_tree_writer.specs.Measuring.{itemAfter, firstAfter, closeAfterAs, nodeAfter, turnAfter}
 
 sound-is : (v : Serializer) → Sound v → isSound v ≡ true
 sound-is v k = sym (checked-sound v (k .checked)) ∙ le-leb _ _ (k .steps)

@@ -4,7 +4,7 @@ use Prim.Native.Nat.{ℕ, _+_, _-_, _*_, _≤_, _<_}
 use native.Mathlib.Omega.{arith}
 use mathlib.Core.Path.{_≡_, refl, sym, ap, _∙_}
 use mathlib.Core.Bool.{Bool, true, false, _||_, cond, false≢true}
-use mathlib.Core.Option.{some, Option·some-injective}
+use mathlib.Core.Option.{some}
 use mathlib.Core.List.{List, [], _∷_, _++_, append-nil}
 use lib.Dec.{ltb, eqb}
 use lib.ListN.{length, drop, set}
@@ -14,19 +14,19 @@ use Rattle.sise_util.proofs.Ranges.{split, and-first, and-second, both}
 use Rattle.sise_parser.specs.Reader.{partOf}
 use Rattle.sise_serializer.specs.Serializer as writer
 use Rattle.sise_serializer.specs.Bytes.{pasted}
-use Rattle.sise_serializer.specs.Serializer.{Style, Written, answerAs, deepest, finishWriting}
+use Rattle.sise_serializer.specs.Serializer.{Style, Written, answerAs, deepest}
 use Rattle.sise_serializer.specs.Steps.{joined}
 use Rattle.sise_serializer.specs.declared.serializer.Serializer.{Serializer}
 use Rattle.sise_serializer.specs.declared.steps.Step.{Step}
-use Rattle.sise_layout.specs.Calls.{largest, Call, putAtomCall, beginListCall, endListCall, finishCall, step, run}
-use Rattle.sise_tree.specs.Tree.{Node, atom, list, Nodes, empty, _then_, depth, kind, first, second, span}
+use Rattle.sise_layout.specs.Calls.{largest, Call, putAtomCall, beginListCall, endListCall, finishCall, step}
+use Rattle.sise_tree.specs.Tree.{Node, atom, Nodes, empty, _then_, depth, kind, first, second, span}
 use Rattle.sise_tree.specs.Decision.{decide}
 use Rattle.sise_tree_writer.specs.SerializeTree.{nodeCalls, rowCalls, atomsHold, atomsHoldAll, fits}
 use Rattle.sise_tree_writer.specs.Writing.{lastCalls, textCalls, turnCall, Ready, closesAt, Passable, Passed, firstAnswer, Checked}
 use Rattle.sise_tree_writer.specs.declared.serialize.Place.{Place}
 use Rattle.sise_tree.proofs.TreeLaws.{size-pos}
 use Rattle.sise_tree.proofs.LocalLaws.{held}
-use Rattle.sise_tree_writer.proofs.Walk.{flat, pending, Walk, walk-start, closes-open, here, closing, opening, passing, pass-less, walk-deep, walk-ended}
+use Rattle.sise_tree_writer.proofs.Walk.{flat, pending, Walk, walk-start, closes-open, here, closing, opening, passing, pass-less, walk-ended}
 use Rattle.sise_tree_writer.proofs.WalkAtoms.{hold-join}
 use Rattle.sise_tree_writer.proofs.CallLaws.{checked-atom, call-list, call-atom, lists-after, accepted-lists, fits-off, Same, same-start, same-on}
 

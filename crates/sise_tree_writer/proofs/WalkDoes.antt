@@ -24,7 +24,7 @@ use Rattle.sise_tree.specs.Decision.{decide, isSome}
 use Rattle.sise_tree.specs.ParseTree.{longest}
 use Rattle.sise_tree.specs.Answers.{answered, refusedWith}
 use Rattle.sise_tree_writer.specs.Answers.{putAs}
-use Rattle.sise_tree_writer.specs.SerializeTree.{atomsHold, fits, Writes, refuse, firstOffset, written, isOver, writeNode, writeTree, DoesWrite, DoesMeasure}
+use Rattle.sise_tree_writer.specs.SerializeTree.{atomsHold, fits, Writes, refuse, firstOffset, written, isOver, writeNode, writeTree, DoesMeasure}
 use Rattle.sise_tree_writer.specs.Writing.{firstAnswer, Checked}
 use Rattle.sise_tree_writer.specs.Measuring.{Measures, all, off}
 use Rattle.sise_tree_writer.specs.declared.measure.Measured.{Measured}

@@ -6,20 +6,19 @@ use mathlib.Core.Bool.{Bool, true, false, cond}
 use mathlib.Core.Option.{some}
 use mathlib.Core.List.{List}
 use lib.Dec.{ltb, eqb}
-use lib.ListN.{length, getD, set, replicate}
+use lib.ListN.{getD, set, replicate}
 use Rattle.sise_serializer.specs.Serializer as writer
-use Rattle.sise_serializer.specs.Serializer.{Style, limit, deepest, phaseAfter, flagsAfter, firstList}
-use Rattle.sise_serializer.specs.Parts.{Small, closedWith, addedWith}
+use Rattle.sise_serializer.specs.Serializer.{Style, limit, deepest, firstList}
+use Rattle.sise_serializer.specs.Parts.{closedWith, addedWith}
 use Rattle.sise_serializer.specs.Steps.{joined}
 use Rattle.sise_serializer.specs.declared.serializer.Phase.{Phase}
 use Rattle.sise_serializer.specs.declared.serializer.Phase.the-variants.{Beginning, Writing, Finished, Done}
 use Rattle.sise_serializer.specs.declared.serializer.Serializer.{Serializer}
 use Rattle.sise_serializer.specs.declared.steps.Progress.{Progress}
 use Rattle.sise_layout.specs.Calls.{Call, run}
-use Rattle.sise_tree.specs.Tree.{Node, depth, kind, second}
-use Rattle.sise_tree.specs.Decision.{decide}
+use Rattle.sise_tree.specs.Tree.{kind, second}
 use Rattle.sise_tree_writer.specs.SerializeTree.{fits}
-use Rattle.sise_tree_writer.specs.Writing.{Checked, textCalls, firstAnswer}
+use Rattle.sise_tree_writer.specs.Writing.{firstAnswer}
 use Rattle.sise_tree_writer.specs.declared.measure.Measured.{Measured}
 use Rattle.sise_tree_writer.specs.declared.measure.Measured.the-variants.{Fits, Refused}
 

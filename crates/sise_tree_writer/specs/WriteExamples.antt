@@ -14,7 +14,7 @@ use Rattle.sise_serializer.specs.Serializer.{deepest, freshSerializer, isSound,
 use Rattle.sise_serializer.specs.declared.serializer.Phase.the-variants.{Writing}
 use Rattle.sise_serializer.specs.declared.serializer.Serializer.{Serializer}
 use Rattle.sise_layout.specs.Calls.{largest, step, run}
-use Rattle.sise_tree.specs.Tree.{Node, atom, list, empty, _then_, size, sizes, children, depth, depths, table, tables}
+use Rattle.sise_tree.specs.Tree.{size, sizes, children, depth, depths, table, tables}
 use Rattle.sise_tree.specs.Decision.{guard, bind, row, ahead, only, decide}
 use Rattle.sise_tree.specs.TableExamples.{text, worked as tree}
 use Rattle.sise_tree.specs.Answers.{Answer, answered, refusedWith}

@@ -11,13 +11,13 @@ use Rattle.sise_util.specs.Atom.{isAtom, isAtomPrefix}
 use Rattle.sise_parser.specs.Plain.{atomRun}
 use Rattle.sise_parser.specs.Reader.{partOf}
 use Rattle.sise_serializer.specs.Serializer as writer
-use Rattle.sise_serializer.specs.Serializer.{Style, Written, deepest, finishWriting}
+use Rattle.sise_serializer.specs.Serializer.{Style, deepest}
 use Rattle.sise_serializer.specs.declared.serializer.Serializer.{Serializer}
-use Rattle.sise_layout.specs.Calls.{isAccepted, Call, putAtomCall, beginListCall, endListCall, finishCall, step, run}
+use Rattle.sise_layout.specs.Calls.{Call, putAtomCall, beginListCall, endListCall, finishCall, step}
 use Rattle.sise_tree.specs.Tree.{Node, kind, first, second, span}
 use Rattle.sise_tree_writer.specs.declared.serialize.Place.{Place}
 use Rattle.sise_tree.specs.Decision.{decide, isSome}
-use Rattle.sise_tree_writer.specs.SerializeTree.{treeCalls, atomsHold, fits}
+use Rattle.sise_tree_writer.specs.SerializeTree.{treeCalls, atomsHold}
 
 -- a finish with a line break, if wished
 abbrev pub lastCalls : Bool → List Call

@@ -9,7 +9,7 @@ use native.Mathlib.Omega.{arith}
 use lib.ListN.{length, length-append}
 use lib.Dec.{eqb}
 use borrow.Author.Tests.{eqb-true}
-use Rattle.sise_util.specs.Chars.{oneOf, isAtomChr, isStringChr, isEscapedChr, isQuoteOrBackslash}
+use Rattle.sise_util.specs.Chars.{isAtomChr, isStringChr, isEscapedChr}
 use Rattle.sise_util.specs.Classes.{Class, space, quote, tab, atomChr, lineEnd, backslash, other, semicolon, left, right, printable, classOf}
 use Rattle.sise_util.specs.Atom.{Inside, empty, chr, escape, Part, single, string, Atom, one, more, outside, inside, escaped, isAtom}
 use Rattle.sise_util.proofs.Ranges.{split}

@@ -9,8 +9,8 @@ use native.Mathlib.Omega.{arith}
 use lib.Dec.{T, eqb, leb, ltb, ltb→lt}
 use lib.ListN.{getD}
 use borrow.Author.Tests.{ne-eqb, lt-leb, ltb-true, ltb-false}
-use Rattle.sise_util.specs.Chars.{within, oneOf, marks, isAtomChr, isStringChr, isEscapedChr, isQuoteOrBackslash}
-use Rattle.sise_util.specs.Classes.{Class, space, quote, tab, atomChr, lineEnd, backslash, other, semicolon, left, right, printable, classOf, classNumber, classesFrom, classTable}
+use Rattle.sise_util.specs.Chars.{within, oneOf, marks, isAtomChr, isStringChr}
+use Rattle.sise_util.specs.Classes.{Class, space, quote, atomChr, backslash, other, semicolon, left, right, printable, classOf, classNumber, classesFrom, classTable}
 use Rattle.sise_util.proofs.Ranges.{split, and-left, and-right, allFrom, ranged, same-bool}
 
 from : (n lo k : ℕ) → k < n → getD (classesFrom n lo) k 0 ≡ classNumber (classOf (lo + k))

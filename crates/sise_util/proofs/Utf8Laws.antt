@@ -2,7 +2,7 @@
 -- each scalar value has exactly one byte string, section 3's.
 -- Assumes nothing.
 use mathlib.Core.Path.{_≡_, refl, sym, ap, ap₂, _∙_, subst}
-use mathlib.Core.Bool.{Bool, true, false, _&&_, cond, true≢false}
+use mathlib.Core.Bool.{Bool, true, false, _&&_, true≢false}
 use mathlib.Core.Logic.{_↔_, _⊎_, inl, inr}
 use mathlib.Core.List.{List, [], _∷_, _++_, List·Memᴰ, List·Memᴰ·head, List·Memᴰ·tail, append-nil}
 use Prim.Native.Nat.{ℕ, zero, suc, _+_, _-_, _*_, _/_, _%_, _≤_, _<_, zero-le}
@@ -14,7 +14,6 @@ use lib.Seq.{take-at, take-length, drop-at, drop-append-seam}
 use borrow.Author.Tests.{lt-ltb, le-ltb, ltb-true, ltb-false}
 use Rattle.sise_util.specs.Chars.{within}
 use Rattle.sise_util.specs.Utf8.{Range, range, tail, Form, form, forms, Fits, done, octet, Utf8Char, Utf8Octets, none, next, follow, byRows, character, octetsOf, Scalar}
-use Rattle.sise_util.specs.declared.utf8.Character.{Character}
 use Rattle.sise_util.specs.declared.utf8.Character.the-variants.{Well, Ill}
 use Rattle.sise_util.proofs.Ranges.{split, and-left, and-right}
 use Rattle.sise_util.proofs.Utf8Steps.{within-yes, within-no, within-from, within-to, Begins, rowOf, noForm}

@@ -7,7 +7,7 @@ use mathlib.Core.List.{List, [], _∷_, _++_}
 use lib.Dec.{leb}
 use lib.ListN.{length, take}
 use Rattle.sise_util.specs.Chars.{isAtomChr, isStringChr, isEscapedChr}
-use Rattle.sise_util.specs.Classes.{Class, space, quote, tab, atomChr, lineEnd, backslash, other, semicolon, left, right, printable, classOf}
+use Rattle.sise_util.specs.Classes.{space, quote, tab, atomChr, lineEnd, backslash, other, semicolon, left, right, printable, classOf}
 
 -- what stands between the two " of a string: string characters, or \ followed by a string character, " or \
 pub data Inside : List ℕ → Type 0 where

@@ -1,7 +1,7 @@
 -- The characters of atoms and strings (util.rs; document 01, "util.rs: characters and atoms").
 -- Assumes nothing.
 use Prim.Native.Nat.{ℕ}
-use mathlib.Core.Bool.{Bool, true, false, _&&_, _||_, not}
+use mathlib.Core.Bool.{Bool, false, _&&_, _||_, not}
 use mathlib.Core.List.{List, [], _∷_}
 use lib.Dec.{leb, eqb}
 

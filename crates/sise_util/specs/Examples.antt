@@ -1,15 +1,13 @@
 -- What the definitions say of worked examples, by computation: document 01's atoms, RFC 3629's own characters (section 7), and the characters on
 -- each side of every border of its rows.
 -- Assumes nothing.
-use Prim.Native.Nat.{ℕ}
 use mathlib.Core.Path.{_≡_, refl}
-use mathlib.Core.Bool.{Bool, true, false}
-use mathlib.Core.List.{List, [], _∷_, map}
+use mathlib.Core.Bool.{true, false}
+use mathlib.Core.List.{[], _∷_, map}
 use Rattle.sise_util.specs.Chars.{within}
 use Rattle.sise_util.specs.Classes.{classOf}
 use Rattle.sise_util.specs.Atom.{outside, inside, escaped, isAtom}
 use Rattle.sise_util.specs.Utf8.{forms, follow, byRows, character}
-use Rattle.sise_util.specs.declared.utf8.Character.{Character}
 use Rattle.sise_util.specs.declared.utf8.Character.the-variants.{Well, Ill}
 
 -- a  ""  "a b"  a"b"c  "\""  "\\"

@@ -1,8 +1,7 @@
 -- A character by RFC 3629: the syntax of its octets (section 4), its code point (section 3), and valid UTF-8.
 -- Assumes nothing.
 use Prim.Native.Nat.{ℕ, _+_, _-_, _*_, _/_, _%_, _≤_, _<_}
-use mathlib.Core.Path.{_≡_}
-use mathlib.Core.Bool.{Bool, true, false, cond}
+use mathlib.Core.Bool.{true, false, cond}
 use mathlib.Core.List.{List, [], _∷_, _++_, List·Memᴰ}
 use lib.Dec.{ltb}
 use lib.ListN.{length}

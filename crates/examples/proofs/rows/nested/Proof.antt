@@ -3,7 +3,7 @@
 use borrow.Author.Needs.{needs}
 use lib.ListN.{length}
 use mathlib.Core.Path.{_≡_}
-use Prim.Native.Nat.{_≤_, _-_}
+use Prim.Native.Nat.{_-_}
 use Rattle.examples.proofs.rows.nested.Statement.{statement}
 use Rattle.examples.proofs.rows.nested.Tie as tie
 

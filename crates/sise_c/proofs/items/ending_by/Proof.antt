@@ -8,7 +8,7 @@ use lib.Dec.{eqb}
 use borrow.Author.Needs.{needs}
 use borrow.Author.Tests.{eq-eqb, ne-eqb}
 use Rattle.sise_parser.specs.Refusals.{Refusal}
-use Rattle.sise_parser.specs.Reader.{Ending, notEnded, finishReading}
+use Rattle.sise_parser.specs.Reader.{notEnded, finishReading}
 use Rattle.sise_parser.specs.declared.reader.Reader.{Reader}
 use Rattle.sise_c.specs.Items.{endingBy}
 use Rattle.sise_c.proofs.items.ending_by.Statement.{statement}

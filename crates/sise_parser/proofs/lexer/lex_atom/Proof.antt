@@ -1,14 +1,14 @@
 -- `sise_parser::lex_atom` meets its contract. What the loop keeps: what the definition says from the atom's start is what it says from here.
 -- Assumes nothing.
-use mathlib.Core.Path.{_≡_, refl, sym, ap, _∙_, subst}
+use mathlib.Core.Path.{_≡_, refl, sym, _∙_, subst}
 use mathlib.Core.List.{List}
-use Prim.Native.Nat.{ℕ, _+_, _-_, _≤_}
+use Prim.Native.Nat.{ℕ, _-_, _≤_}
 use native.Mathlib.Omega.{arith}
 use native.Mathlib.Nat.{le-refl}
 use lib.ListN.{length, drop}
 use borrow.Author.Needs.{needs}
 use Rattle.sise_parser.specs.Lexer.{plain}
-use Rattle.sise_parser.specs.Meaning.{Ends, EndsFrom, stringThen}
+use Rattle.sise_parser.specs.Meaning.{Ends}
 use Rattle.sise_parser.specs.declared.lexer.StringEnd.{StringEnd}
 use Rattle.sise_parser.proofs.Steps.{plain-end}
 use Rattle.sise_parser.proofs.ByteSteps.{plain-atom, plain-string, plain-stop}

@@ -4,7 +4,7 @@ use mathlib.Core.Path.{_≡_, sym, ap, _∙_}
 use mathlib.Core.List.{List}
 use Prim.Native.Nat.{ℕ, _+_}
 use native.Mathlib.Omega.{arith}
-use lib.ListN.{drop, length-drop}
+use lib.ListN.{length-drop}
 use borrow.Author.Needs.{needs}
 use Rattle.sise_util.specs.Utf8.{character}
 use Rattle.sise_util.specs.declared.utf8.Character.the-variants.{Well, Ill}

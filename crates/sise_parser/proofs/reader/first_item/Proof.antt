@@ -4,7 +4,7 @@ use mathlib.Core.Path.{_≡_, sym, ap, _∙_}
 use Prim.Native.Nat.{ℕ}
 use borrow.Author.Needs.{needs}
 use Rattle.sise_parser.specs.Lexer.{found}
-use Rattle.sise_parser.specs.Reader.{Next, inBeginning}
+use Rattle.sise_parser.specs.Reader.{inBeginning}
 use Rattle.sise_parser.specs.Meaning.{tokenAs}
 use Rattle.sise_parser.specs.declared.lexer.Token.{Token}
 use Rattle.sise_parser.proofs.reader.first_item.Statement.{statement}

@@ -1,11 +1,11 @@
 -- `sise_parser::inner_item` meets its contract, token by token; a `)` closes the last list or another.
 -- Assumes nothing.
-use mathlib.Core.Path.{_≡_, refl, sym, ap, _∙_}
+use mathlib.Core.Path.{_≡_, sym, ap, _∙_}
 use Prim.Native.Nat.{ℕ, _-_}
 use borrow.Author.Needs.{needs}
 use borrow.Author.Tests.{eq-eqb, ne-eqb}
 use Rattle.sise_parser.specs.Lexer.{found, closing}
-use Rattle.sise_parser.specs.Reader.{Next, next, reader, item, closed, inParsing}
+use Rattle.sise_parser.specs.Reader.{next, reader, item, inParsing}
 use Rattle.sise_parser.specs.Meaning.{tokenAs}
 use Rattle.sise_parser.specs.declared.lexer.Token.{Token}
 use Rattle.sise_parser.specs.declared.reader.Phase.the-variants.{Parsing, Finishing}

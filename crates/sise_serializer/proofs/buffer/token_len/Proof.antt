@@ -1,6 +1,5 @@
 -- By the test of the code.
 -- Assumes nothing.
-use borrow.Author.Needs.{needs}
 use Rattle.sise_serializer.proofs.buffer.token_len.Statement.{statement}
 use Rattle.sise_serializer.proofs.buffer.token_len.Tie as tie
 

@@ -5,7 +5,6 @@ use native.Mathlib.Omega.{arith}
 use mathlib.Core.Path.{_≡_, refl, sym, _∙_}
 use lib.ListN.{length}
 use borrow.Author.Needs.{needs}
-use Rattle.sise_serializer.specs.Bytes.{repeat}
 use Rattle.sise_serializer.specs.Serializer.{Piece, style, newLine, newLineOf, laid, innerAs}
 use Rattle.sise_serializer.specs.Steps.{joined}
 use Rattle.sise_serializer.specs.Parts.{tokenOf, spotOf}

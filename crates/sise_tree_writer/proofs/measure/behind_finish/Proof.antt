@@ -1,6 +1,6 @@
 -- Without a finish the record is as it was; with one the phase and the room decide.
 -- Assumes nothing.
-use mathlib.Core.Path.{sym, _∙_}
+use mathlib.Core.Path.{sym}
 use borrow.Author.Needs.{needs}
 use borrow.Author.Tests.{lt-ltb, le-ltb, not-true, not-false}
 use Rattle.sise_tree_writer.specs.Measuring.{finishIn}

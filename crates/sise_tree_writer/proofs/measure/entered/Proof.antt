@@ -2,7 +2,6 @@
 -- Assumes nothing.
 use native.Mathlib.Omega.{arith}
 use mathlib.Core.Path.{refl}
-use borrow.Author.Needs.{needs}
 use Rattle.sise_tree_writer.proofs.measure.entered.Statement.{statement}
 use Rattle.sise_tree_writer.proofs.measure.entered.Tie as tie
 

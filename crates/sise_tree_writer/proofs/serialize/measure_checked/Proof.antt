@@ -1,10 +1,8 @@
 -- What was measured is what a buffer of so many bytes is told; if the calls do not fit the depth tells 21 from 22.
 -- Assumes nothing.
-use mathlib.Core.Path.{refl, sym, ap, _∙_}
+use mathlib.Core.Path.{sym, ap, _∙_}
 use borrow.Author.Needs.{needs}
 use Rattle.sise_serializer.specs.Serializer.{isSound}
-use Rattle.sise_serializer.specs.declared.serializer.Serializer.{Serializer}
-use Rattle.sise_tree_writer.specs.declared.serialize.PutTree.the-variants.{TooDeep, NoRoom}
 use Rattle.sise_tree_writer.proofs.WalkDoes.{node-in, sound-lists, measured-fits, measured-deep, measured-full}
 use Rattle.sise_tree_writer.proofs.serialize.measure_checked.Statement.{statement}
 use Rattle.sise_tree_writer.proofs.serialize.measure_checked.Tie as tie

@@ -8,12 +8,11 @@ use native.Mathlib.Omega.{arith}
 use lib.Dec.{eqb}
 use lib.ListN.{length, drop, getD, drop-of-length-le}
 use borrow.Author.Needs.{needs}
-use borrow.Author.Tests.{eq-eqb, ne-eqb, not-true, not-false, eqb-true}
+use borrow.Author.Tests.{eq-eqb, ne-eqb}
 use Rattle.sise_util.specs.Chars.{isAtomChr}
 use Rattle.sise_util.specs.Atom.{outside, inside, isAtom}
 use Rattle.sise_util.specs.Parts.{afterString}
 use Rattle.sise_util.proofs.Lists.{drop-next}
-use Rattle.sise_util.proofs.Ranges.{split}
 use Rattle.sise_util.proofs.AtomLaws.{outside-cons}
 use Rattle.sise_util.proofs.util.check_atom.Statement.{statement}
 use Rattle.sise_util.proofs.util.check_atom.Tie as tie

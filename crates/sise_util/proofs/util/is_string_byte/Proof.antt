@@ -5,7 +5,7 @@ use native.Mathlib.Omega.{arith}
 use mathlib.Core.Path.{_≡_, _∙_}
 use mathlib.Core.Bool.{true, false}
 use lib.Dec.{ltb}
-use borrow.Author.Tests.{ltb-true, ltb-false, lt-ltb, le-ltb}
+use borrow.Author.Tests.{ltb-true, ltb-false}
 use Rattle.sise_util.specs.Chars.{isStringChr}
 use Rattle.sise_util.proofs.Ranges.{split, valued, valued-but}
 use Rattle.sise_util.proofs.util.is_string_byte.Statement.{statement}

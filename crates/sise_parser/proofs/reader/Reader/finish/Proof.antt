@@ -1,7 +1,7 @@
 -- `sise_parser::Reader::finish` meets its contract: refusals 11 and 10 first, then whether the token is the text's end.
 -- Assumes nothing.
 use mathlib.Core.Path.{_≡_, refl, sym, ap, _∙_}
-use mathlib.Core.List.{List, [], _∷_}
+use mathlib.Core.List.{[], _∷_}
 use mathlib.Core.Logic.{⊎-elim}
 use Prim.Native.Nat.{ℕ}
 use native.Mathlib.Omega.{arith}
@@ -10,8 +10,8 @@ use denote.Enum.Declared.{tagOf}
 use borrow.Author.Needs.{needs}
 use borrow.Author.Tests.{not-true, not-false}
 use Rattle.sise_parser.specs.Refusals.{refusal}
-use Rattle.sise_parser.specs.Lexer.{between, found}
-use Rattle.sise_parser.specs.Reader.{tokenAt, Ending, ended, notEnded, endsAt}
+use Rattle.sise_parser.specs.Lexer.{found}
+use Rattle.sise_parser.specs.Reader.{tokenAt, ended, notEnded, endsAt}
 use Rattle.sise_parser.specs.Meaning.{lexedAs, tokenAs}
 use Rattle.sise_parser.specs.declared.lexer.Lexed.{Lexed}
 use Rattle.sise_parser.specs.declared.lexer.Lexed.the-variants.{Found}

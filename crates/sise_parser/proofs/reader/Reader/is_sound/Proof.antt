@@ -1,12 +1,11 @@
 -- `sise_parser::Reader::is_sound` meets its contract: the definition's three tests, one after the other.
 -- Assumes nothing.
-use mathlib.Core.Path.{_≡_, sym, ap, _∙_}
-use mathlib.Core.Bool.{Bool, false, _&&_}
+use mathlib.Core.Path.{_≡_, sym, _∙_}
+use mathlib.Core.Bool.{false}
 use mathlib.Core.Logic.{⊎-elim}
 use Prim.Native.Nat.{ℕ, _≤_, _<_}
 use borrow.Author.Needs.{needs}
 use borrow.Author.Tests.{le-leb, lt-leb, ltb-true, ltb-false}
-use lib.Dec.{leb}
 use Rattle.sise_parser.specs.Reader.{listsFit, isSound}
 use Rattle.sise_parser.specs.declared.reader.Reader.{Reader}
 use Rattle.sise_parser.proofs.reader.Reader.is_sound.Statement.{statement}
