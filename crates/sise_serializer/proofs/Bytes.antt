@@ -8,7 +8,8 @@ use mathlib.Core.Path.{_≡_, sym, ap, _∙_}
 use mathlib.Core.List.{List, [], _∷_, _++_, append-assoc, append-nil}
 use lib.ListN.{length, set, take, drop, length-append, length-take}
 use lib.Seq.{paste, paste-zero, take-length, take-at, drop-at, drop-drop, set-split}
-use Rattle.sise_serializer.specs.Bytes.{pasted, repeat}
+use borrow.Author.Tests.{le-leb, lt-leb}
+use Rattle.sise_serializer.specs.Bytes.{pasted, pastedIf, repeat}
 
 pub repeat-length : (n : ℕ) (b : List ℕ) → length (repeat n b) ≡ n * length b
 repeat-length zero b = sym (zero-mul (length b))
@@ -47,6 +48,16 @@ pasted-again l at k b h = rw (pasted-more l at (repeat k b) h b, repeat-more, ad
 
 pub repeat-length-more : (k : ℕ) (b : List ℕ) → length (repeat (k + 1) b) ≡ length (repeat k b) + length b
 repeat-length-more k b = rw (add-one, ← repeat-more) (length-append (repeat k b) b)
+
+-- bytes with room, and without
+module _ (l : List ℕ) (at : ℕ) (b : List ℕ) where
+  pub pasted-if : at + length b ≤ length l → pastedIf l at b ≡ pasted l at b
+  unfolding pastedIf
+  pasted-if h = rw (le-leb (at + length b) (length l) h)
+
+  pub pasted-not : length l < at + length b → pastedIf l at b ≡ l
+  unfolding pastedIf
+  pasted-not h = rw (lt-leb (at + length b) (length l) h)
 
 -- one byte
 pub pasted-one : (l : List ℕ) (at b : ℕ) → at < length l → set l at b ≡ pasted l at (b ∷ [])

@@ -4,7 +4,7 @@ ghost use mathlib.Core.List.{_++_};
 ghost use Prim.Native.Nat.{_+_, _*_, _≤_, min};
 ghost use lib.Dec.{leb};
 ghost use lib.ListN.{length};
-ghost use Rattle.sise_serializer.specs.Bytes.{pasted, repeat};
+ghost use Rattle.sise_serializer.specs.Bytes.{pasted, pastedIf, repeat};
 ghost use Rattle.sise_serializer.specs.Parts.{spotOf, tokenOf, gapBytes};
 
 // The longest text.
@@ -136,5 +136,36 @@ pub(crate) fn write_token(buf: &mut [u8], at: usize, atom: &[u8], is_list: bool)
         buf[at] = 40;
     } else {
         copy(buf, at, atom);
+    }
+}
+
+// ---- for callers in other crates: bytes are copied where they have room, and nothing otherwise
+
+// Copies `src` to the bytes of `buf` that begin at `at`.
+pub fn paste(buf: &mut [u8], at: usize, src: &[u8])
+    ensures { λ _. ⌜ now (buf .exit) ≡ pastedIf (now (buf .entry)) at (now (src .entry)) ⌝ }
+{
+    if buf.len() < at {
+        return;
+    }
+    if buf.len() - at < src.len() {
+        return;
+    }
+    copy(buf, at, src);
+}
+
+// Copies a line break and `times` indentations.
+pub fn paste_line(buf: &mut [u8], at: usize, line_break: &[u8], times: usize, indentation: &[u8])
+    ensures { λ _. ⌜ now (buf .exit) ≡ pastedIf (now (buf .entry)) at (now («line_break» .entry) ++ repeat times (now (indentation .entry))) ⌝ }
+{
+    if buf.len() < at {
+        return;
+    }
+    let left = buf.len() - at;
+    if left < line_break.len() {
+        return;
+    }
+    if has_room(left - line_break.len(), times, indentation.len()) {
+        write_line(buf, at, line_break, times, indentation);
     }
 }

@@ -3,6 +3,8 @@ mod buffer;
 mod serializer;
 mod steps;
 
+pub use buffer::paste;
+pub use buffer::paste_line;
 pub use serializer::Phase;
 pub use serializer::Put;
 pub use serializer::Serializer;

@@ -9,6 +9,8 @@ use sise_parser::atom_bytes;
 use sise_serializer::Flags;
 use sise_serializer::Phase;
 use sise_serializer::Progress;
+use sise_serializer::paste;
+use sise_serializer::paste_line;
 use sise_tree::wide;
 ghost use mathlib.Core.Path.{_≡_};
 ghost use mathlib.Core.Bool.{true, false, _||_, cond};
@@ -16,8 +18,8 @@ ghost use mathlib.Core.Option.{some};
 ghost use Prim.Native.Nat.{_+_, _*_, _≤_, _<_};
 ghost use lib.ListN.{length};
 ghost use Rattle.sise_parser.specs.Reader.{partOf};
-ghost use Rattle.sise_serializer.specs.Bytes.{pasted, repeat};
-ghost use Rattle.sise_serializer.specs.Serializer.{style, newLineOf};
+ghost use Rattle.sise_serializer.specs.Bytes.{pasted};
+ghost use Rattle.sise_serializer.specs.Serializer.{style};
 ghost use Rattle.sise_serializer.specs.Steps.{joined};
 ghost use Rattle.sise_layout.specs.Calls.{run};
 ghost use Rattle.sise_tree.specs.Tree.{Node, first, second};
@@ -38,51 +40,6 @@ pub struct Pen {
 pub struct Line {
     pub position: usize,
     pub line_len: usize,
-}
-
-// Copies `src` to the bytes of `buf` that begin at `at`. The writer's own loop is private to its crate: a public one would have to check its room, which
-// slows flat trees by some 4 percent.
-fn copy(buf: &mut [u8], at: usize, src: &[u8])
-    requires { ⌜ at + length (now src) ≤ length (now buf) ⌝ }
-    ensures { λ _. ⌜ now (buf .exit) ≡ pasted (now (buf .entry)) at (now (src .entry)) ⌝ }
-{
-    let mut i = 0;
-    while i < src.len() {
-        buf[at + i] = src[i];
-        i += 1;
-    }
-}
-
-// Copies `src` as many as `times` times, each behind the last, and returns where the last one ends.
-fn copies(buf: &mut [u8], at: usize, times: usize, src: &[u8]) -> usize
-    requires { ⌜ at + times * length (now src) ≤ length (now buf) ⌝ }
-    ensures { λ r. ⌜ r ≡ at + length (repeat times (now (src .entry))) ⌝ }
-    ensures { λ _. ⌜ now (buf .exit) ≡ pasted (now (buf .entry)) at (repeat times (now (src .entry))) ⌝ }
-{
-    let mut k = 0;
-    let mut to = at;
-    while k < times {
-        copy(buf, to, src);
-        to += src.len();
-        k += 1;
-    }
-    to
-}
-
-// A line break and `times` indentations. Returns where they end.
-fn draw_line(
-    buf: &mut [u8],
-    at: usize,
-    line_break: &[u8],
-    times: usize,
-    indentation: &[u8],
-) -> usize
-    requires { ⌜ at + length (newLineOf (style (now «line_break») (now indentation)) times) ≤ length (now buf) ⌝ }
-    ensures { λ r. ⌜ r ≡ at + length (newLineOf (style (now («line_break» .entry)) (now (indentation .entry))) times) ⌝ }
-    ensures { λ _. ⌜ now (buf .exit) ≡ pasted (now (buf .entry)) at (newLineOf (style (now («line_break» .entry)) (now (indentation .entry))) times) ⌝ }
-{
-    copy(buf, at, line_break);
-    copies(buf, at + line_break.len(), times, indentation)
 }
 
 // Whether the token goes on a new line, with `lists` lists around it; the flags are settled. A `)` does if its list is broken, and breaks the list around.
@@ -130,9 +87,11 @@ fn draw_gap(
     ensures { λ _. ⌜ now (buf .exit) ≡ pasted (now (buf .entry)) position (leadOf (style (now («line_break» .entry)) (now (indentation .entry))) lists breaks joins) ⌝ }
 {
     if breaks {
+        paste_line(buf, position, line_break, lists, indentation);
+        let indent = lists * indentation.len();
         return Line {
-            position: draw_line(buf, position, line_break, lists, indentation),
-            line_len: lists * indentation.len(),
+            position: position + (line_break.len() + indent),
+            line_len: indent,
         };
     }
     if joins {
@@ -191,7 +150,7 @@ fn draw_token(
         };
     }
     let atom = part(text, wide(table[4 * i + 1]), wide(table[4 * i + 2]));
-    copy(buf, position, atom);
+    paste(buf, position, atom);
     Pen {
         position: position + atom.len(),
         line_len: line.line_len + atom.len(),
@@ -302,7 +261,7 @@ fn draw_first(pen: Pen, flags: &mut Flags, buf: &mut [u8], text: &[u8], table: &
         };
     }
     let atom = atom_bytes(text, wide(table[1]), wide(table[2]));
-    copy(buf, position, atom);
+    paste(buf, position, atom);
     Pen {
         position: position + atom.len(),
         line_len: pen.line_len,
@@ -393,6 +352,6 @@ pub(crate) fn write_nodes(
         i = place.i;
     }
     if finish {
-        copy(buf, pen.position, line_break);
+        paste(buf, pen.position, line_break);
     }
 }

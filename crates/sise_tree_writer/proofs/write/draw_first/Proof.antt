@@ -7,7 +7,7 @@ use borrow.Author.Needs.{needs}
 use borrow.Author.Tests.{eq-eqb, ne-eqb}
 use Rattle.sise_parser.specs.Reader.{partOf}
 use Rattle.sise_tree.specs.Tree.{kind, first, second}
-use Rattle.sise_serializer.proofs.Bytes.{pasted-one}
+use Rattle.sise_serializer.proofs.Bytes.{pasted-one, pasted-if}
 use Rattle.sise_tree_writer.proofs.write.draw_first.Statement.{statement}
 use Rattle.sise_tree_writer.proofs.write.draw_first.Tie as tie
 
@@ -59,12 +59,8 @@ atom-is c =
     c .atom-bytes .ensures ∙ ap (λ (n : ℕ). partOf (a .text .now) n (c .before .wide2 .result)) (c .before .before .before .wide .ensures .0)
     ∙ ap (partOf (a .text .now) (first (a .table .now) 0)) (c .before .wide2 .ensures .0)
 
-copy-requires : tie.Need-copy-requires
-copy-requires c κs =
-    let bytes = c .before in
-    let k = ne-eqb (kind (Start bytes .args .table .now) 0) 0 (bytes .before .before .before .before .before .if1 .left) in
-    let fit = rw (k, ← atom-is bytes) at (Start bytes .pre .fits) in
-    omega arith
+paste-requires : tie.Need-paste-requires
+paste-requires c κs = search needs
 
 add-t17 : tie.Need-add-t17
 add-t17 c = search needs
@@ -77,7 +73,8 @@ returns-2 c =
     let copied = c .before .before in
     let bytes = copied .before .before in
     let k = ne-eqb (kind (Start bytes .args .table .now) 0) 0 (bytes .before .before .before .before .before .if1 .left) in
-    (rw (k, ← atom-is bytes), (rw k, rw (k, ← atom-is bytes) (copied .copy .ensures)))
+    let fit = rw (k, ← atom-is bytes) at (Start bytes .pre .fits) in
+    (rw (k, ← atom-is bytes), (rw k, rw (k, ← atom-is bytes) (copied .paste .ensures ∙ pasted-if _ _ _ fit)))
 
 pub draw-first-spec : {M : Type 1} → statement M
 draw-first-spec =
@@ -94,7 +91,7 @@ draw-first-spec =
     shared-slice-read-wide-2
     wide-requires-2
     atom-bytes-requires
-    copy-requires
+    paste-requires
     add-t17
     same-length-2
     returns-2)

@@ -2,20 +2,33 @@
 -- Assumes nothing.
 use native.Mathlib.Nat.{add-zero}
 use native.Mathlib.Omega.{arith}
-use mathlib.Core.Path.{sym}
+use mathlib.Core.Path.{sym, _∙_}
 use borrow.Author.Needs.{needs}
-use Rattle.sise_serializer.proofs.Bytes.{pasted-none, layout-length, pasted-one}
+use Rattle.sise_serializer.proofs.Bytes.{pasted-none, layout-length, pasted-one, pasted-if}
 use Rattle.sise_tree_writer.proofs.write.draw_gap.Statement.{statement}
 use Rattle.sise_tree_writer.proofs.write.draw_gap.Tie as tie
 
-draw-line-requires : tie.Need-draw-line-requires
-draw-line-requires c κs = let fit = rw (c .before .if1 .taken) at (c .before .before .before .before .before .pre .0) in omega arith
+paste-line-requires : tie.Need-paste-line-requires
+paste-line-requires c κs = search needs
 
-mul-t14 : tie.Need-mul-t14
-mul-t14 c =
-    let start = c .before .before .before .before .before .before .before .before in
-    let a = start .args in
-    let fit = rw (c .before .before .before .before .if1 .taken) at (start .pre .0) in
+mul-indent : tie.Need-mul-indent
+mul-indent c =
+    let a = c .before .before .before .before .before .before .before .before .args in
+    let fit = rw (c .before .before .before .before .if1 .taken) at (c .before .before .before .before .before .before .before .before .pre .0) in
+    let size = layout-length (a .line-break .now) (a .lists) (a .indentation .now) in
+    search needs
+
+add-t15 : tie.Need-add-t15
+add-t15 c =
+    let a = c .before .before .before .before .before .before .before .before .args in
+    let fit = rw (c .before .before .before .before .if1 .taken) at (c .before .before .before .before .before .before .before .before .pre .0) in
+    let size = layout-length (a .line-break .now) (a .lists) (a .indentation .now) in
+    search needs
+
+add-t16 : tie.Need-add-t16
+add-t16 c =
+    let a = c .before .before .before .before .before .before .before .before .args in
+    let fit = rw (c .before .before .before .before .if1 .taken) at (c .before .before .before .before .before .before .before .before .pre .0) in
     let size = layout-length (a .line-break .now) (a .lists) (a .indentation .now) in
     search needs
 
@@ -24,9 +37,11 @@ same-length c = search needs
 
 returns : tie.Need-returns
 returns c =
-    let drawn = c .before .before in
-    let k = drawn .before .before .if1 .taken in
-    (rw (k, drawn .draw-line .ensures .0), rw (k, drawn .draw-line .ensures .1))
+    let a = c .before .before .before .before .before .before .before .before .args in
+    let k = c .before .before .before .before .if1 .taken in
+    let fit = rw k at (c .before .before .before .before .before .before .before .before .pre .0) in
+    let size = layout-length (a .line-break .now) (a .lists) (a .indentation .now) in
+    (rw (k, size), rw k (c .before .before .paste-line .ensures ∙ pasted-if _ _ _ fit))
 
 returns-2 : tie.Need-returns-2
 returns-2 c =
@@ -38,23 +53,34 @@ slice-write-buf c =
     let fit = rw (c .before .if1 .left, c .if2 .left) at (c .before .before .before .before .before .pre .0) in
     omega arith
 
-add-t16 : tie.Need-add-t16
-add-t16 c = search needs
+add-t18 : tie.Need-add-t18
+add-t18 c = search needs
 
-add-t17 : tie.Need-add-t17
-add-t17 c = search needs
+add-t19 : tie.Need-add-t19
+add-t19 c = search needs
 
 same-length-2 : tie.Need-same-length-2
 same-length-2 c = search needs
 
 returns-3 : tie.Need-returns-3
 returns-3 c =
-    let start = c .before .before .before .before .before in
-    let a = start .args in
-    let fit = rw (c .before .if1 .left, c .if2 .left) at (start .pre .0) in
+    let a = c .before .before .before .before .before .args in
+    let fit = rw (c .before .if1 .left, c .if2 .left) at (c .before .before .before .before .before .pre .0) in
     (rw (c .before .if1 .left, c .if2 .left), rw (c .before .if1 .left, c .if2 .left) (pasted-one (a .buf .now) (a .position) 32 (omega arith)))
 
 pub draw-gap-spec : {M : Type 1} → statement M
 draw-gap-spec =
     tie.close
-    (tie.spec draw-line-requires mul-t14 same-length returns returns-2 slice-write-buf add-t16 add-t17 same-length-2 returns-3)
+    (tie.spec
+    paste-line-requires
+    mul-indent
+    add-t15
+    add-t16
+    same-length
+    returns
+    returns-2
+    slice-write-buf
+    add-t18
+    add-t19
+    same-length-2
+    returns-3)

@@ -5,7 +5,7 @@ use mathlib.Core.Path.{_≡_, sym, _∙_}
 use borrow.Author.Needs.{needs}
 use Rattle.sise_parser.specs.Reader.{partOf}
 use Rattle.sise_tree.specs.Tree.{first, second}
-use Rattle.sise_serializer.proofs.Bytes.{pasted-one}
+use Rattle.sise_serializer.proofs.Bytes.{pasted-one, pasted-if}
 use Rattle.sise_tree_writer.proofs.write.draw_token.Statement.{statement}
 use Rattle.sise_tree_writer.proofs.write.draw_token.Tie as tie
 
@@ -91,13 +91,8 @@ part-requires c κs =
     let start = c .before .before .before .before .before .before .before .before .before in
     omega (arith, start .pre .2 .1 (c .before .before .before .before .before .if1 .left) (c .before .before .before .before .if2 .left), c .before .before .wide .ensures .0, c .wide2 .ensures .0)
 
-copy-requires : tie.Need-copy-requires
-copy-requires c κs =
-    let k = c .before .before .before .before .before .before .before .if1 .left in
-    let start = c .before .before .before .before .before .before .before .before .before .before .before in
-    let z = sym (rw k at (start .pre .2 .0)) ∙ c .before .before .before .before .before .before .if2 .left in
-    let fit = rw (k, z, ← c .before .before .before .before .wide .ensures .0, ← c .before .before .wide2 .ensures .0, ← c .before .part .ensures) at (start .pre .0 .0) in
-    omega arith
+paste-requires : tie.Need-paste-requires
+paste-requires c κs = search needs
 
 add-t23 : tie.Need-add-t23
 add-t23 c = search needs
@@ -117,7 +112,8 @@ returns-3 c =
     let a = start .args in
     let atom : copied .before .before .part .result .now ≡ partOf (a .text .now) (first (a .table .now) (a .i)) (second (a .table .now) (a .i)) =
     copied .before .before .part .ensures ∙ rw (copied .before .before .before .before .before .wide .ensures .0, copied .before .before .before .wide2 .ensures .0) in
-    (rw (k, z, ← atom), (rw (k, z), rw (k, z, ← atom) (copied .copy .ensures)))
+    let fit = rw (k, z, ← atom) at (start .pre .0 .0) in
+    (rw (k, z, ← atom), (rw (k, z), rw (k, z, ← atom) (copied .paste .ensures ∙ pasted-if _ _ _ fit)))
 
 pub draw-token-spec : {M : Type 1} → statement M
 draw-token-spec =
@@ -146,7 +142,7 @@ draw-token-spec =
     shared-slice-read-wide-2
     wide-requires-2
     part-requires
-    copy-requires
+    paste-requires
     add-t23
     add-t31
     same-length-3

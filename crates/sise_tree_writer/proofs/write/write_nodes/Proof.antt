@@ -10,6 +10,7 @@ use lib.Dec.{ltb}
 use lib.ListN.{length, replicate}
 use borrow.Author.Needs.{needs}
 use Rattle.sise_serializer.specs.Serializer.{style}
+use Rattle.sise_serializer.proofs.Bytes.{pasted-if}
 use Rattle.sise_serializer.specs.Steps.{joined}
 use Rattle.sise_serializer.specs.declared.serializer.Serializer.{Serializer}
 use Rattle.sise_tree_writer.proofs.Walk.{root-there}
@@ -110,19 +111,20 @@ loop-again c b w h =
     let turn = drawn .before .before .before in
     reached-on (at turn .loop .inv b w h) (turn .closes-at .ensures) (goes turn) (drawn .draw-turn .ensures) (drawn .draw-turn .kept .1 .1 .1 .1 .0) (c .before .pass .ensures) (c .atom-threshold2 .ensures)
 
-copy-requires : tie.Need-copy-requires Inv-loop μ-loop
-copy-requires c κs =
-    let done = c .before .before in
-    finish-fits (reached (done .before .before)) (sym (done .before .goes-on .ensures) ∙ done .if1 .left) (c .before .if2 .taken)
+paste-requires : tie.Need-paste-requires Inv-loop μ-loop
+paste-requires c κs = search needs
 
 same-length : tie.Need-same-length Inv-loop μ-loop
-same-length c = c .before .before .copy .kept .0 ∙ reached (c .before .before .before .before .before .before .before) .left .same .room
+same-length c = c .before .before .paste .kept .0 ∙ reached (c .before .before .before .before .before .before .before) .left .same .room
 
 returns : tie.Need-returns Inv-loop μ-loop
 returns c n d =
     let copied = c .before .before in
     let done = copied .before .before .before in
-    reached-finish (reached (done .before .before)) (sym (done .before .goes-on .ensures) ∙ done .if1 .left) (copied .before .before .if2 .taken) (copied .copy .ensures) (copied .copy .kept .0) d
+    let over = sym (done .before .goes-on .ensures) ∙ done .if1 .left in
+    let wished = copied .before .before .if2 .taken in
+    let r = reached (done .before .before) in
+    reached-finish r over wished (copied .paste .ensures ∙ pasted-if _ _ _ (finish-fits r over wished)) (copied .paste .kept .0) d
 
 same-length-2 : tie.Need-same-length-2 Inv-loop μ-loop
 same-length-2 c = reached (c .before .before .before) .left .same .room
@@ -148,7 +150,7 @@ write-nodes-spec =
     atom-threshold-requires-2
     loop-less
     loop-again
-    copy-requires
+    paste-requires
     same-length
     returns
     same-length-2
