@@ -8,6 +8,7 @@ use items::count_items;
 use items::fill_items;
 use sise_layout::write_calls;
 use sise_parser::Finished;
+use sise_serializer::LIMIT;
 use sise_tree::index_path;
 use sise_tree::parse_text;
 use sise_tree_writer::measure_text;
@@ -34,9 +35,6 @@ ghost use Rattle.sise_tree_writer.specs.Writing.{textCalls};
 ghost use Rattle.sise_c.specs.Told.{checked, Tells, sizeOf};
 ghost use Rattle.sise_c.specs.Items.{readItems};
 ghost use Rattle.sise_c.specs.Written.{Writes};
-
-// The most bytes of a text that is written.
-const LONGEST: usize = 16777216;
 
 // Whether the bytes are an atom: 0 or 17.
 #[no_mangle]
@@ -112,7 +110,7 @@ pub extern "C" fn sise_measure_tree(
     let measured = measure_text(
         line_break,
         indentation,
-        LONGEST,
+        LIMIT,
         text,
         table,
         break_line_at,

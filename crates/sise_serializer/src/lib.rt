@@ -3,12 +3,14 @@ mod buffer;
 mod serializer;
 mod steps;
 
+pub use buffer::LIMIT;
 pub use buffer::paste;
 pub use buffer::paste_line;
 pub use serializer::Phase;
 pub use serializer::Put;
 pub use serializer::Serializer;
 pub use serializer::Wrote;
+pub use steps::DEEPEST;
 pub use steps::Flags;
 pub use steps::Progress;
 pub use steps::Step;

@@ -23,7 +23,7 @@ ghost use Rattle.sise_serializer.specs.Serializer.{freshSerializer, styl
 ghost use Rattle.sise_serializer.specs.Steps.{joined, Steps, putItem};
 
 // The most open lists.
-const DEEPEST: usize = 200;
+pub const DEEPEST: usize = 200;
 
 // A broken flag for each open list.
 pub type Flags = [bool; 200];

@@ -7,6 +7,7 @@ use crate::serialize::is_full;
 use crate::serialize::is_over;
 use crate::serialize::pass;
 use sise_serializer::Flags;
+use sise_serializer::LIMIT;
 use sise_serializer::Phase;
 use sise_serializer::Progress;
 use sise_serializer::phase_after;
@@ -32,9 +33,6 @@ pub enum Measured {
     Fits(Progress, usize),
     Refused,
 }
-
-// The longest text.
-const LIMIT: usize = 16777216;
 
 // The size of a string, of which more than the limit is as good as one byte more.
 fn clipped(len: usize) -> usize

@@ -3,6 +3,7 @@ use crate::measure::Measured;
 use crate::measure::measure_nodes;
 use crate::write::write_nodes;
 use sise_parser::atom_run;
+use sise_serializer::DEEPEST;
 use sise_serializer::Flags;
 use sise_serializer::Phase;
 use sise_serializer::Progress;
@@ -29,9 +30,6 @@ ghost use Rattle.sise_tree_writer.specs.Writing.{textCalls, InTable, isP
 
 // The largest threshold: no line is that long.
 const LARGEST: u64 = 18446744073709551615;
-
-// The most open lists.
-const DEEPEST: usize = 200;
 
 // What serialize_tree answers: the offset of the first item, or a refusal.
 pub enum PutTree {
