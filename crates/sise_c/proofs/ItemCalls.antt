@@ -5,8 +5,8 @@ use mathlib.Core.Path.{_≡_, refl, ap}
 use mathlib.Core.List.{List, [], _∷_, _++_, map}
 use Rattle.sise_parser.specs.declared.reader.ParsedItem.{ParsedItem}
 use Rattle.sise_parser.specs.declared.reader.ParsedItem.the-variants.{Atom, ListStart, ListEnd}
-use Rattle.sise_layout.specs.Calls.{Call}
-use Rattle.sise_layout.specs.Words.{callOf, decoded}
+use Rattle.sise_serializer.specs.Calls.{Call}
+use Rattle.sise_serializer.specs.Words.{callOf, decoded}
 use Rattle.sise_c.specs.Items.{allWords, itemCall}
 
 pub words-are-calls : (text : List ℕ) (l : List ParsedItem) (rest : List ℕ) → decoded (allWords l ++ rest) text ≡ map (itemCall text) l ++ decoded rest text

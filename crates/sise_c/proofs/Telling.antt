@@ -5,7 +5,7 @@ use mathlib.Core.Path.{_≡_, refl, sym, ap, _∙_, subst}
 use mathlib.Core.List.{List, [], _∷_}
 use types.Run.{OneOf}
 use denote.Enum.Declared.{tagOf}
-use Rattle.sise_layout.proofs.Running.{no-zero}
+use Rattle.sise_serializer.proofs.Running.{no-zero}
 use Rattle.sise_tree.specs.Answers.{Answer, answered, parsedAs, indexedAs, numberOf, placeOf, codeOf}
 use Rattle.sise_tree_writer.specs.Answers.{putAs}
 use Rattle.sise_tree.specs.declared.parse.ParsedTree.{ParsedTree}
@@ -20,7 +20,7 @@ use Rattle.sise_tree_writer.proofs.serialize.PutTree as puts
 use Rattle.sise_tree_writer.specs.declared.serialize.TreeWrote.{TreeWrote}
 use Rattle.sise_tree_writer.specs.SerializeTree.{writeTree, DoesWrite, DoesMeasure}
 use Rattle.sise_tree.specs.Tree.{Node}
-use Rattle.sise_layout.specs.Calls.{Call}
+use Rattle.sise_serializer.specs.Calls.{Call}
 use Rattle.sise_serializer.specs.Serializer.{Style, freshSerializer}
 use Rattle.sise_serializer.specs.declared.serializer.Serializer.{Serializer}
 use Rattle.sise_c.specs.Told.{valuesOf, Tells, sizeOr, sizeOf}

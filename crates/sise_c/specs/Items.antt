@@ -12,7 +12,7 @@ use Rattle.sise_parser.specs.declared.reader.Reader.{Reader}
 use Rattle.sise_parser.specs.declared.reader.ParsedItem.{ParsedItem}
 use Rattle.sise_parser.specs.declared.reader.ParsedItem.the-variants.{Atom, ListStart, ListEnd}
 use Rattle.sise_serializer.specs.Bytes.{pasted}
-use Rattle.sise_layout.specs.Calls.{Call, putAtomCall, beginListCall, endListCall}
+use Rattle.sise_serializer.specs.Calls.{Call, putAtomCall, beginListCall, endListCall}
 use Rattle.sise_tree.specs.Answers.{Answer, answered, refused, refusedWith}
 
 -- the items of at most k calls of next_item, up to the first refusal

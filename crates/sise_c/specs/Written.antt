@@ -4,8 +4,8 @@ use Prim.Native.Nat.{ℕ}
 use mathlib.Core.Path.{_≡_}
 use mathlib.Core.List.{List, map}
 use Rattle.sise_serializer.specs.Bytes.{pasted}
-use Rattle.sise_layout.specs.Calls.{Run}
-use Rattle.sise_layout.specs.Words.{answerWord}
+use Rattle.sise_serializer.specs.Calls.{Run}
+use Rattle.sise_serializer.specs.Words.{answerWord}
 
 -- the run r over answer words that were `before`: n bytes are written, the buffer is `bytes`, the answer words are `now`
 pub record Writes (r : Run) (before : List ℕ) (n : ℕ) (bytes now : List ℕ) : Type 0 where

@@ -10,7 +10,7 @@ use Rattle.sise_serializer.specs.Bytes.{repeat}
 use Rattle.sise_serializer.specs.Serializer.{Style, newLineOf}
 use Rattle.sise_serializer.proofs.Bytes.{layout-length}
 use Rattle.sise_util.proofs.Ranges.{and-first, and-second, both}
-use Rattle.sise_layout.specs.Calls.{isBlank, allBlank, Blank}
+use Rattle.sise_layout.specs.Texts.{isBlank, allBlank, Blank}
 use Rattle.sise_layout.proofs.Lexing.{stops, blank-stops}
 
 pub append-blank : (a b : List ℕ) → allBlank a ≡ true → allBlank b ≡ true → allBlank (a ++ b) ≡ true

@@ -11,7 +11,8 @@ use Rattle.sise_serializer.specs.Bytes.{pasted}
 use Rattle.sise_serializer.specs.Serializer.{Style, Written, limit, last, freshSerializer}
 use Rattle.sise_serializer.specs.declared.serializer.Serializer.{Serializer}
 use Rattle.sise_serializer.proofs.Bytes.{pasted-none}
-use Rattle.sise_layout.specs.Calls.{Call, Placed, Run, run, writing, textOf, itemOf, step}
+use Rattle.sise_serializer.specs.Calls.{Call, Placed, Run, run, writing, itemOf, step}
+use Rattle.sise_layout.specs.Texts.{textOf}
 use Rattle.sise_layout.proofs.Pieces.{Aligned}
 use Rattle.sise_layout.proofs.Outcomes.{Outcome, same, adds, ends, outcome}
 use Rattle.sise_layout.proofs.Written.{Writes, writes, fresh-aligned, last-aligned, last-position}

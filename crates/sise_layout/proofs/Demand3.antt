@@ -10,7 +10,8 @@ use Rattle.sise_parser.specs.Reader.{refusedWith}
 use Rattle.sise_serializer.specs.Serializer.{Style, freshSerializer}
 use Rattle.sise_serializer.specs.declared.serializer.Phase.the-variants.{Done}
 use Rattle.sise_serializer.specs.declared.serializer.Serializer.{Serializer}
-use Rattle.sise_layout.specs.Calls.{Call, Item, atom, listStart, listEnd, Placed, itemsOf, writing, Finishes, textOf, Blank}
+use Rattle.sise_serializer.specs.Calls.{Call, Item, atom, listStart, listEnd, Placed, itemsOf, writing}
+use Rattle.sise_layout.specs.Texts.{Finishes, textOf, Blank}
 use Rattle.sise_layout.specs.Reading.{asRead, Stands, All, none, more, Gives, itemRead, itemsRead}
 use Rattle.sise_layout.specs.Claim.{Spells, Holds}
 use Rattle.sise_serializer.specs.Examples.{house}

@@ -10,8 +10,9 @@ use Rattle.sise_serializer.specs.Serializer.{Style, Written, Answer}
 use Rattle.sise_serializer.specs.declared.serializer.Phase.{Phase}
 use Rattle.sise_serializer.specs.declared.serializer.Phase.the-variants.{Beginning, Writing, Finished, Done}
 use Rattle.sise_serializer.specs.declared.serializer.Serializer.{Serializer}
-use Rattle.sise_layout.specs.Calls.{isAccepted, Call, finishCall, FinishAccepted, here, later, step, run}
-use Rattle.sise_layout.proofs.Verdicts.{Puts, atomAlone, atomInside, listFirst, listInside, listClosed, textEnded, Verdict, refuses, puts, verdict}
+use Rattle.sise_serializer.specs.Calls.{isAccepted, Call, finishCall, step, run}
+use Rattle.sise_layout.specs.Texts.{FinishAccepted, here, later}
+use Rattle.sise_serializer.proofs.Verdicts.{Puts, atomAlone, atomInside, listFirst, listInside, listClosed, textEnded, Verdict, refuses, puts, verdict}
 use Rattle.sise_layout.proofs.Written.{last-done}
 
 abbrev isDone : Phase → Bool

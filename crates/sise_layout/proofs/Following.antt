@@ -8,7 +8,7 @@ use lib.ListN.{length, take, replicate}
 use Rattle.sise_parser.specs.Refusals.{refusal}
 use Rattle.sise_parser.specs.Reader.{Answer, Next, answersFrom, freshReader, next, nextItem, refusedWith, finishReading, ended, notEnded, afterCalls}
 use Rattle.sise_parser.specs.declared.reader.Reader.{Reader}
-use Rattle.sise_layout.specs.Calls.{Placed}
+use Rattle.sise_serializer.specs.Calls.{Placed}
 use Rattle.sise_layout.specs.Reading.{asRead, Stands, All, none, more, Gives}
 
 -- from r on, reading the text gives exactly these items, and then the end

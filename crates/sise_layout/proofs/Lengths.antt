@@ -9,7 +9,8 @@ use borrow.Author.Tests.{eqb-true}
 use Rattle.sise_serializer.specs.Serializer.{Style, Written, last, freshSerializer}
 use Rattle.sise_serializer.specs.declared.serializer.Phase.the-variants.{Done}
 use Rattle.sise_serializer.specs.declared.serializer.Serializer.{Serializer}
-use Rattle.sise_layout.specs.Calls.{Call, Item, atom, listStart, listEnd, Placed, itemsOf, itemOf, step, atomBytes, lists}
+use Rattle.sise_serializer.specs.Calls.{Call, Item, atom, listStart, listEnd, Placed, itemsOf, itemOf, step}
+use Rattle.sise_layout.specs.Texts.{atomBytes, lists}
 use Rattle.sise_layout.proofs.Pieces.{Aligned, layoutOf, itemBytes}
 use Rattle.sise_layout.proofs.Outcomes.{Outcome, same, adds, ends, outcome}
 use Rattle.sise_layout.proofs.Written.{writes, fresh-aligned, last-aligned, last-paid, last-lists}

@@ -13,7 +13,8 @@ use Rattle.sise_util.specs.Classes.{Class, space, quote, tab, atomChr, lineEnd,
 use Rattle.sise_util.specs.Atom.{outside, inside, escaped, isAtom}
 use Rattle.sise_parser.specs.Lexer.{Lexed, Token, found, opening, closing, atom, between, plain, string, escape}
 use Rattle.sise_util.proofs.Ranges.{and-first, and-second}
-use Rattle.sise_layout.specs.Calls.{Item, atom as atomItem, listStart, listEnd, isBlank, allBlank}
+use Rattle.sise_serializer.specs.Calls.{Item, atom as atomItem, listStart, listEnd}
+use Rattle.sise_layout.specs.Texts.{isBlank, allBlank}
 
 -- the classes that are skipped between tokens, and those that end an atom
 abbrev isGap : Class → Bool

@@ -3,7 +3,6 @@ pub mod Blanks
 pub mod Following
 pub mod ReaderSteps
 pub mod Pieces
-pub mod Verdicts
 pub mod Outcomes
 pub mod Written
 pub mod ReadBack
@@ -14,4 +13,3 @@ pub mod Ended
 pub mod Demand3
 pub mod Sound
 pub mod Refused
-pub mod Running

@@ -7,7 +7,7 @@ use Rattle.sise_serializer.specs.Serializer.{Style, Written, last, freshSeriali
 use Rattle.sise_serializer.specs.declared.serializer.Phase.{Phase}
 use Rattle.sise_serializer.specs.declared.serializer.Phase.the-variants.{Beginning, Writing, Finished, Done}
 use Rattle.sise_serializer.specs.declared.serializer.Serializer.{Serializer}
-use Rattle.sise_layout.specs.Calls.{Call, Item, listStart, listEnd, itemsOf, itemOf, step}
+use Rattle.sise_serializer.specs.Calls.{Call, Item, listStart, listEnd, itemsOf, itemOf, step}
 use Rattle.sise_layout.specs.Nodes.{Node, Nodes, leaf, list, none, more}
 use Rattle.sise_layout.proofs.Pieces.{Aligned, Turns, only, begins, holds, deepens, shallower, ending}
 use Rattle.sise_layout.proofs.Outcomes.{Outcome, same, adds, ends, outcome}

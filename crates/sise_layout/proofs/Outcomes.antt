@@ -8,9 +8,9 @@ use lib.Dec.{eqb}
 use Rattle.sise_serializer.specs.Serializer.{Style, Piece, Written, refuse, limit, isSound, firstAtom, firstList, inner, close, last}
 use Rattle.sise_serializer.specs.declared.serializer.Phase.the-variants.{Finished}
 use Rattle.sise_serializer.specs.declared.serializer.Serializer.{Serializer}
-use Rattle.sise_layout.specs.Calls.{Call, Item, atom, listStart, listEnd, placed, itemAt, step}
+use Rattle.sise_serializer.specs.Calls.{Call, Item, atom, listStart, listEnd, placed, itemAt, step}
 use Rattle.sise_layout.proofs.Pieces.{Aligned, Adds, first-atom, first-list, inner-atom, inner-list, close-list}
-use Rattle.sise_layout.proofs.Verdicts.{endOf, put, Puts, atomAlone, atomInside, listFirst, listInside, listClosed, textEnded, Verdict, refuses, puts, verdict}
+use Rattle.sise_serializer.proofs.Verdicts.{endOf, put, Puts, atomAlone, atomInside, listFirst, listInside, listClosed, textEnded, Verdict, refuses, puts, verdict}
 
 pub data Outcome (s : Style) (room : ℕ) (w : Serializer) (c : Call) : Written → Type 0 where
   same : (n : ℕ) → (eqb n 11 ≡ true → isSound w ≡ false) → Outcome s room w c (refuse n w)

@@ -17,11 +17,12 @@ use Rattle.sise_parser.specs.Lexer.{found}
 use Rattle.sise_parser.specs.Reader.{next, reader, inBeginning, inParsing}
 use Rattle.sise_parser.specs.declared.reader.Phase as readerPhase
 use Rattle.sise_parser.specs.declared.reader.Phase.the-variants as at
-use Rattle.sise_serializer.specs.Serializer.{Style, Piece, limit, deepest, lastBreak, listsFit, firstAtom, firstList, Gap, newLine, nothing, space, gapAt, newLineOf, laid, innerAs, inner, phaseAfter, closeAs, close}
+use Rattle.sise_serializer.specs.Serializer.{Style, Piece, deepest, listsFit, firstAtom, firstList, Gap, newLine, nothing, space, gapAt, newLineOf, laid, innerAs, inner, phaseAfter, closeAs, close}
 use Rattle.sise_serializer.specs.declared.serializer.Phase.{Phase}
 use Rattle.sise_serializer.specs.declared.serializer.Phase.the-variants.{Beginning, Writing, Finished, Done}
 use Rattle.sise_serializer.specs.declared.serializer.Serializer.{Serializer}
-use Rattle.sise_layout.specs.Calls.{Item, atom, listStart, listEnd, placed, allBlank, Blank}
+use Rattle.sise_serializer.specs.Calls.{Item, atom, listStart, listEnd, placed}
+use Rattle.sise_layout.specs.Texts.{allBlank, Blank}
 use Rattle.sise_layout.specs.Reading.{asRead}
 use Rattle.sise_layout.proofs.Lexing.{stops, token, lexeme, isItem, mayPrecede}
 use Rattle.sise_layout.proofs.Blanks.{newLine-length, newLine-blank, newLine-stops}
@@ -71,15 +72,6 @@ pub data Turns : Phase → ℕ → Item → Phase → ℕ → Type 0 where
   shallower : {n : ℕ} → Turns Writing (suc (suc n)) listEnd Writing (suc n)
   ending : Turns Writing 1 listEnd Finished 0
 
--- the bounds of a sound record
-pub record Bounded (w : Serializer) : Type 0 where
-  pub position : w .position ≤ limit
-  pub line : w .«line_len» ≤ w .position
-  pub lists : w .lists ≤ deepest
-  pub spaces : w .spaces ≤ w .position
-  pub breaks : w .breaks ≤ w .position + lastBreak (w .phase)
-  pub indents : w .indents ≤ deepest * (w .position + 1)
-
 -- the piece p adds the item i
 pub record Adds (s : Style) (w : Serializer) (i : Item) (p : Piece) : Type 0 where
   pub bytes : p .token ≡ token i
@@ -92,15 +84,11 @@ pub record Adds (s : Style) (w : Serializer) (i : Item) (p : Piece) : Type 0 whe
   pub follow : (r : List ℕ) → (settled (p .after) ≡ true → stops r ≡ true) → mayPrecede i r ≡ true
   pub apart : Blank s → settled w ≡ true → (r : List ℕ) → stops (p .layout ++ p .token ++ r) ≡ true
   pub turns : Turns (w .phase) (w .lists) i (p .after .phase) (p .after .lists)
-  pub kept : Bounded w → w .position + length (p .layout) + length (p .token) ≤ limit → Bounded (p .after)
   pub paid : length (p .layout) + length (p .token) + layoutOf s w + p .after .lists ≡ itemBytes i + layoutOf s (p .after) + w .lists
 
 module _ (s : Style) (w : Serializer) (i : Aligned w) (f : w .phase ≡ Beginning) where
   none-open : w .lists ≡ 0
   none-open = eqb-true (w .lists) 0 (rw f at (i .fit))
-
-  first-breaks : Bounded w → w .breaks ≤ w .position
-  first-breaks h = omega (arith, (rw f at (h .breaks)))
 
   going-first : Going (phaseOf (w .phase))
   going-first = rw f first
@@ -118,14 +106,6 @@ module _ (s : Style) (w : Serializer) (i : Aligned w) (f : w .phase ≡ Beginnin
     follow = λ r g. g refl;
     apart = λ b g. absurd (false≢true (rw f at g));
     turns = rw (f, none-open) (only a);
-    kept = λ h e. record {
-      position = omega arith;
-      line = omega (arith, h .line);
-      lists = omega arith;
-      spaces = omega (arith, h .spaces);
-      breaks = omega (arith, first-breaks h);
-      indents = omega (arith, h .indents);
-    };
     paid = rw none-open (omega arith);
   }
 
@@ -142,14 +122,6 @@ module _ (s : Style) (w : Serializer) (i : Aligned w) (f : w .phase ≡ Beginnin
     follow = λ r g. refl;
     apart = λ b g. absurd (false≢true (rw f at g));
     turns = rw (f, none-open) begins;
-    kept = λ h e. record {
-      position = omega arith;
-      line = omega arith;
-      lists = omega arith;
-      spaces = omega (arith, h .spaces);
-      breaks = omega (arith, first-breaks h);
-      indents = omega (arith, h .indents);
-    };
     paid = rw none-open (omega arith);
   }
 
@@ -181,42 +153,6 @@ module _ (s : Style) (w : Serializer) where
   some-gap : (t : ℕ) → w .«list_beginning» ≡ false → isNothing (gapAt w t) ≡ false
   some-gap t e = split (ltb (w .«line_len») t) (λ d. rw (d, e)) (λ d. rw d)
 
-module _ (s : Style) (w : Serializer) (f : w .phase ≡ Writing) where
-  writing-breaks : Bounded w → w .breaks ≤ w .position
-  writing-breaks h = omega (arith, (rw f at (h .breaks)))
-
-  opened-kept : (isList : Bool) → (isList ≡ true → w .lists < deepest) → w .lists ≤ deepest → cond isList (w .lists + 1) (w .lists) ≤ deepest
-  opened-kept true below h = omega (arith, below refl)
-  opened-kept false below h = h
-
-  innerAs-kept : (a : List ℕ) (isList : Bool) → 1 ≤ length a → (isList ≡ true → w .lists < deepest) → Bounded w
-      → (g : Gap) → w .position + length (innerAs s w a isList g .layout) + length a ≤ limit → Bounded (innerAs s w a isList g .after)
-  unfolding innerAs laid
-  innerAs-kept a isList one below h newLine e = record {
-    position = e;
-    line = rw (newLine-length s (w .lists)) (omega arith);
-    lists = opened-kept isList below (h .lists);
-    spaces = omega (arith, h .spaces);
-    breaks = omega (arith, writing-breaks h);
-    indents = omega (arith, h .indents, h .lists);
-  }
-  innerAs-kept a isList one below h nothing e = record {
-    position = e;
-    line = omega (arith, h .line);
-    lists = opened-kept isList below (h .lists);
-    spaces = omega (arith, h .spaces);
-    breaks = omega (arith, writing-breaks h);
-    indents = omega (arith, h .indents);
-  }
-  innerAs-kept a isList one below h space e = record {
-    position = e;
-    line = omega (arith, h .line);
-    lists = opened-kept isList below (h .lists);
-    spaces = omega (arith, h .spaces);
-    breaks = omega (arith, writing-breaks h);
-    indents = omega (arith, h .indents);
-  }
-
 module _ (s : Style) (w : Serializer) (t : ℕ) (i : Aligned w) (f : w .phase ≡ Writing) where
   abbrev gap : Gap
   gap = gapAt w t
@@ -238,16 +174,6 @@ module _ (s : Style) (w : Serializer) (t : ℕ) (i : Aligned w) (f : w .phase �
   inner-apart : (a : List ℕ) → Blank s → settled w ≡ true → (r : List ℕ) → stops (laid gap s w .bytes ++ a ++ r) ≡ true
   inner-apart a b g r = rw append-assoc (laid-stops s w gap (a ++ r) (some-gap s w t (not-beginning g)) b)
 
-  atom-bytes : (a : List ℕ) → isAtom a ≡ true → 1 ≤ length a
-  unfolding isAtom
-  atom-bytes [] h = absurd (false≢true h)
-  atom-bytes (b ∷ a) h = omega arith
-
-  inner-kept : (a : List ℕ) (isList : Bool) → 1 ≤ length a → (isList ≡ true → w .lists < deepest)
-      → Bounded w → w .position + length (inner s w a isList t .layout) + length a ≤ limit → Bounded (inner s w a isList t .after)
-  unfolding inner
-  inner-kept a isList one below h e = innerAs-kept s w f a isList one below h gap e
-
   pub inner-atom : (a : List ℕ) → isAtom a ≡ true → Adds s w (atom a) (inner s w a false t)
   unfolding inner innerAs inParsing asRead
   inner-atom a h = record {
@@ -261,7 +187,6 @@ module _ (s : Style) (w : Serializer) (t : ℕ) (i : Aligned w) (f : w .phase �
     follow = λ r g. g refl;
     apart = inner-apart a;
     turns = rw f (some-lists (λ n. Turns Writing n (atom a) Writing n) (λ m. holds a));
-    kept = inner-kept a false (atom-bytes a h) (λ e. absurd (false≢true e));
     paid = omega (arith, laid-paid s w gap);
   }
 
@@ -278,7 +203,6 @@ module _ (s : Style) (w : Serializer) (t : ℕ) (i : Aligned w) (f : w .phase �
     follow = λ r g. refl;
     apart = inner-apart (40 ∷ []);
     turns = rw f (some-lists (λ n. Turns Writing n listStart Writing (n + 1)) (λ m. rw add-one deepens));
-    kept = inner-kept (40 ∷ []) true (omega arith) (λ e. below);
     paid = omega (arith, laid-paid s w gap);
   }
 
@@ -334,30 +258,6 @@ module _ (s : Style) (w : Serializer) (i : Aligned w) (f : w .phase ≡ Writing)
   close-paid true = rw (newLine-length s (w .lists - 1)) (omega (arith, one-open))
   close-paid false = omega (arith, one-open)
 
-  -- a close comes after no finish
-  no-last-break : (n : ℕ) → lastBreak (phaseAfter n) ≡ 0
-  unfolding phaseAfter
-  no-last-break n = split (eqb n 0) (λ e. rw e) (λ e. rw e)
-
-  close-kept : (b : Bool) → Bounded w → w .position + length (closeAs s w b .layout) + length (closeAs s w b .token) ≤ limit → Bounded (closeAs s w b .after)
-  unfolding closeAs
-  close-kept true h e = record {
-    position = e;
-    line = rw (newLine-length s (w .lists - 1)) (omega arith);
-    lists = omega (arith, h .lists);
-    spaces = omega (arith, h .spaces);
-    breaks = rw (no-last-break (w .lists - 1)) (omega (arith, writing-breaks s w f h));
-    indents = omega (arith, h .indents, h .lists);
-  }
-  close-kept false h e = record {
-    position = e;
-    line = omega (arith, h .line);
-    lists = omega (arith, h .lists);
-    spaces = omega (arith, h .spaces);
-    breaks = rw (no-last-break (w .lists - 1)) (omega (arith, writing-breaks s w f h));
-    indents = omega (arith, h .indents);
-  }
-
   close-adds : (b : Bool) → Adds s w listEnd (closeAs s w b)
   unfolding closeAs
   close-adds b = record {
@@ -371,7 +271,6 @@ module _ (s : Style) (w : Serializer) (i : Aligned w) (f : w .phase ≡ Writing)
     follow = λ r g. refl;
     apart = λ bl g. close-apart b bl;
     turns = rw f close-turns;
-    kept = close-kept b;
     paid = omega (arith, close-paid b);
   }
 

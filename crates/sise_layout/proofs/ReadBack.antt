@@ -16,7 +16,8 @@ use Rattle.sise_serializer.specs.Serializer.{Style, Written, Piece, last, lists
 use Rattle.sise_serializer.specs.declared.serializer.Phase.{Phase}
 use Rattle.sise_serializer.specs.declared.serializer.Phase.the-variants.{Beginning, Writing, Finished, Done}
 use Rattle.sise_serializer.specs.declared.serializer.Serializer.{Serializer}
-use Rattle.sise_layout.specs.Calls.{Call, Item, Placed, placed, itemOf, step, allBlank, Blank}
+use Rattle.sise_serializer.specs.Calls.{Call, Item, Placed, placed, itemOf, step}
+use Rattle.sise_layout.specs.Texts.{allBlank, Blank}
 use Rattle.sise_layout.proofs.Lexing.{stops, token, lexeme, item-on}
 use Rattle.sise_layout.proofs.Blanks.{append-blank}
 use Rattle.sise_layout.proofs.Following.{Follows, over, goes}

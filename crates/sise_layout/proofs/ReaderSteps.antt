@@ -14,7 +14,8 @@ use Rattle.sise_parser.specs.Lexer.{Lexed, between}
 use Rattle.sise_parser.specs.Reader.{reader, listsFit, isSound, Next, next, refusedWith, tokenAt, inBeginning, inParsing, nextIn, nextItem, finishIn, finishReading, ended, notEnded, endsAt}
 use Rattle.sise_parser.specs.declared.reader.Phase.{Phase}
 use Rattle.sise_parser.specs.declared.reader.Phase.the-variants.{Beginning, Parsing, Finishing}
-use Rattle.sise_layout.specs.Calls.{Item, atom, listStart, listEnd, placed, allBlank}
+use Rattle.sise_serializer.specs.Calls.{Item, atom, listStart, listEnd, placed}
+use Rattle.sise_layout.specs.Texts.{allBlank}
 use Rattle.sise_layout.specs.Reading.{Stands}
 use Rattle.sise_layout.proofs.Lexing.{token, skip-blanks}
 use Rattle.sise_util.proofs.Ranges.{both}

@@ -9,8 +9,8 @@ use Rattle.sise_serializer.specs.Bytes.{pasted}
 use Rattle.sise_serializer.specs.Serializer.{Style, Written, refused}
 use Rattle.sise_serializer.specs.declared.serializer.Serializer.{Serializer}
 use Rattle.sise_serializer.proofs.Bytes.{pasted-none}
-use Rattle.sise_layout.specs.Calls.{isAccepted, Call, step}
-use Rattle.sise_layout.proofs.Verdicts.{Verdict, refuses, puts, verdict}
+use Rattle.sise_serializer.specs.Calls.{isAccepted, Call, step}
+use Rattle.sise_serializer.proofs.Verdicts.{Verdict, refuses, puts, verdict}
 
 leaves : (s : Style) (room : ℕ) (w : Serializer) (c : Call) (r : Written) → Verdict s room w c r → isAccepted (r .answer) ≡ false → (r .serializer ≡ w) × (r .bytes ≡ [])
 leaves s room w c r (refuses n u) e = (refl, refl)

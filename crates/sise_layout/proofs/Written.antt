@@ -9,7 +9,8 @@ use lib.ListN.{length}
 use Rattle.sise_serializer.specs.Serializer.{Style, last, freshSerializer}
 use Rattle.sise_serializer.specs.declared.serializer.Phase.the-variants.{Finished, Done}
 use Rattle.sise_serializer.specs.declared.serializer.Serializer.{Serializer}
-use Rattle.sise_layout.specs.Calls.{Call, Placed, itemOf, step, allBlank, Blank}
+use Rattle.sise_serializer.specs.Calls.{Call, Placed, itemOf, step}
+use Rattle.sise_layout.specs.Texts.{allBlank, Blank}
 use Rattle.sise_layout.proofs.Lexing.{stops}
 use Rattle.sise_layout.proofs.Blanks.{append-blank, blanks-stop}
 use Rattle.sise_layout.proofs.Pieces.{Aligned, layoutOf}

@@ -6,7 +6,8 @@ use mathlib.Core.List.{List}
 use lib.ListN.{length, take}
 use Rattle.sise_parser.specs.Reader.{freshReader, answersFrom}
 use Rattle.sise_serializer.specs.Serializer.{Style}
-use Rattle.sise_layout.specs.Calls.{Call, Item, Run, writing, textOf, atomBytes, lists}
+use Rattle.sise_serializer.specs.Calls.{Call, Item, Run, writing}
+use Rattle.sise_layout.specs.Texts.{textOf, atomBytes, lists}
 use Rattle.sise_layout.specs.Reading.{Gives, itemsRead}
 use Rattle.sise_layout.specs.Nodes.{Node}
 

@@ -14,7 +14,8 @@ use Rattle.sise_serializer.specs.Examples.{house}
 use Rattle.sise_serializer.specs.Serializer.{freshSerializer, isSound, place, firstAtom, firstList, laid, innerAs, inner, phaseAfter, flagsAfter, closeAs, close, last, putIn, putAtom, beginIn, beginList, endIn, endList, finishIn, finishWriting}
 use Rattle.sise_serializer.specs.declared.serializer.Phase.{Phase}
 use Rattle.sise_serializer.specs.declared.serializer.Phase.the-variants.{Done}
-use Rattle.sise_layout.specs.Calls.{largest, Call, putAtomCall, beginListCall, endListCall, finishCall, Item, atom, listStart, listEnd, Placed, itemsOf, step, itemAt, Run, run, writing, here, later, Finishes, textOf, Blank}
+use Rattle.sise_serializer.specs.Calls.{largest, Call, putAtomCall, beginListCall, endListCall, finishCall, Item, atom, listStart, listEnd, Placed, itemsOf, step, itemAt, Run, run, writing}
+use Rattle.sise_layout.specs.Texts.{here, later, Finishes, textOf, Blank}
 
 -- "`(`, `z` at largest, `(` at 0, `1` at largest, `22` at 4, two `)`, finish with break", with t for 4; a refused call among them
 unfoldable pub worked : ℕ → List Call

@@ -1,7 +1,6 @@
-pub mod Calls
+pub mod Texts
 pub mod Reading
 pub mod Nodes
 pub mod Claim
-pub mod Words
 pub mod Examples
 pub mod WordExamples

@@ -2,7 +2,7 @@
 -- Assumes nothing.
 use Prim.Native.Nat.{ℕ}
 use mathlib.Core.List.{List, [], _∷_, _++_}
-use Rattle.sise_layout.specs.Calls.{Item, atom, listStart, listEnd}
+use Rattle.sise_serializer.specs.Calls.{Item, atom, listStart, listEnd}
 
 mutual
   pub data Node : List Item → Type 0 where

@@ -9,7 +9,7 @@ use Rattle.sise_parser.specs.Refusals.{refusal}
 use Rattle.sise_parser.specs.Reader as reader
 use Rattle.sise_parser.specs.Reader.{freshReader, answersFrom, finishReading, refusedWith, ended, notEnded, afterCalls}
 use Rattle.sise_parser.specs.declared.reader.ParsedItem.the-variants.{Atom, ListStart, ListEnd}
-use Rattle.sise_layout.specs.Calls.{Item, atom, listStart, listEnd, Placed}
+use Rattle.sise_serializer.specs.Calls.{Item, atom, listStart, listEnd, Placed}
 
 -- the answer that an item is: "the kind, the place that the writer answered, for an atom its length"
 unfoldable pub asRead : Placed → reader.Answer

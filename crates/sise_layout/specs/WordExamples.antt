@@ -6,8 +6,8 @@ use mathlib.Core.List.{List, [], _∷_, _++_}
 use lib.ListN.{take}
 use Rattle.sise_parser.specs.Reader.{partOf}
 use Rattle.sise_serializer.specs.Serializer.{accepted, refused}
-use Rattle.sise_layout.specs.Calls.{putAtomCall}
-use Rattle.sise_layout.specs.Words.{callOf, decoded, callsOf, answerWord}
+use Rattle.sise_serializer.specs.Calls.{putAtomCall}
+use Rattle.sise_serializer.specs.Words.{callOf, decoded, callsOf, answerWord}
 use Rattle.sise_layout.specs.Examples.{worked}
 
 -- `z12 22`

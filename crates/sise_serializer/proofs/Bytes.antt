@@ -1,12 +1,12 @@
 -- Bytes pasted one after another are pasted at once; and how long repeated bytes are.
 -- Assumes nothing.
 use Prim.Native.Nat.{ℕ, zero, suc, _+_, _*_, _≤_, _<_}
-use native.Mathlib.Nat.{zero-mul, suc-mul, add-assoc}
+use native.Mathlib.Nat.{zero-mul, suc-mul, suc-add, zero-add, add-assoc}
 use native.Mathlib.Numerals.{add-one}
 use native.Mathlib.Omega.{arith}
 use mathlib.Core.Path.{_≡_, sym, ap, _∙_}
 use mathlib.Core.List.{List, [], _∷_, _++_, append-assoc, append-nil}
-use lib.ListN.{length, set, take, drop, length-append, length-take}
+use lib.ListN.{length, getD, set, take, drop, length-append, length-take}
 use lib.Seq.{paste, paste-zero, take-length, take-at, drop-at, drop-drop, set-split}
 use borrow.Author.Tests.{le-leb, lt-leb}
 use Rattle.sise_serializer.specs.Bytes.{pasted, pastedIf, repeat}
@@ -49,6 +49,17 @@ pasted-again l at k b h = rw (pasted-more l at (repeat k b) h b, repeat-more, ad
 pub repeat-length-more : (k : ℕ) (b : List ℕ) → length (repeat (k + 1) b) ≡ length (repeat k b) + length b
 repeat-length-more k b = rw (add-one, ← repeat-more) (length-append (repeat k b) b)
 
+-- n copies of m copies
+repeat-add : (m n : ℕ) (b : List ℕ) → repeat m b ++ repeat n b ≡ repeat (m + n) b
+repeat-add zero n b = ap (λ (k : ℕ). repeat k b) (sym (zero-add n))
+repeat-add (suc m) n b = append-assoc b (repeat m b) (repeat n b) ∙ ap (λ (l : List ℕ). b ++ l) (repeat-add m n b) ∙ ap (λ (k : ℕ). repeat k b) (sym (suc-add m n))
+
+pub repeat-repeat : (n m : ℕ) (b : List ℕ) → repeat n (repeat m b) ≡ repeat (n * m) b
+repeat-repeat zero m b = ap (λ (k : ℕ). repeat k b) (sym (zero-mul m))
+repeat-repeat (suc n) m b =
+    let size : m + n * m ≡ suc n * m = omega (arith, suc-mul n m) in
+    ap (λ (l : List ℕ). repeat m b ++ l) (repeat-repeat n m b) ∙ repeat-add m (n * m) b ∙ ap (λ (k : ℕ). repeat k b) size
+
 -- bytes with room, and without
 module _ (l : List ℕ) (at : ℕ) (b : List ℕ) where
   pub pasted-if : at + length b ≤ length l → pastedIf l at b ≡ pasted l at b
@@ -63,6 +74,12 @@ module _ (l : List ℕ) (at : ℕ) (b : List ℕ) where
 pub pasted-one : (l : List ℕ) (at b : ℕ) → at < length l → set l at b ≡ pasted l at (b ∷ [])
 unfolding pasted
 pasted-one l at b h = set-split l at b h ∙ ap (λ (k : ℕ). take at l ++ b ∷ drop k l) (sym (add-one at)) ∙ sym (append-assoc (take at l) (b ∷ []) (drop (at + 1) l))
+
+-- a list of one byte
+pub pasted-single : (l : List ℕ) (at : ℕ) (b : List ℕ) → at < length l → length b ≡ 1 → set l at (getD b 0 0) ≡ pasted l at b
+pasted-single l at [] h e = absurd (omega arith)
+pasted-single l at (x ∷ []) h e = pasted-one l at x h
+pasted-single l at (x ∷ y ∷ b) h e = absurd (omega arith)
 
 -- bytes written right behind others
 pub pasted-behind : (l : List ℕ) (at : ℕ) (a b : List ℕ) {m now : List ℕ} {to : ℕ} → m ≡ pasted l at a → to ≡ at + length a → now ≡ pasted m to b → at + length a ≤ length l

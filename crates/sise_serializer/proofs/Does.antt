@@ -4,12 +4,12 @@ use Prim.Native.Nat.{ℕ, _+_, _-_, _*_, _≤_, _<_}
 use native.Mathlib.Nat.{add-zero}
 use mathlib.Core.Path.{_≡_, refl, sym, ap, subst, _∙_}
 use mathlib.Core.Bool.{Bool, true, false, _||_, cond, false≢true}
-use mathlib.Core.List.{List, [], _∷_, _++_, append-nil}
+use mathlib.Core.List.{List, [], _∷_, _++_}
 use lib.ListN.{length, getD}
 use borrow.Author.Tests.{lt-ltb, le-ltb}
 use Rattle.sise_util.specs.Atom.{isAtom}
 use Rattle.sise_util.proofs.Ranges.{split}
-use Rattle.sise_serializer.specs.Bytes.{pasted, repeat}
+use Rattle.sise_serializer.specs.Bytes.{pasted}
 use Rattle.sise_serializer.specs.Serializer.{Answer, refused, answerAs, Written, Does, deepest, isSound, Style, style, Piece, refuse, place, firstAtom, firstList, Gap, newLine, nothing, space, gapAt, laid, inner, innerAs, close, closeAs, last, putIn, putAtom, beginIn, beginList, endIn, endList, finishIn, finishWriting}
 use Rattle.sise_serializer.specs.Steps.{joined, Steps, putItem}
 use Rattle.sise_serializer.specs.Parts.{spotOf, closedWith, inLine, tokenOf, gapBytes, firstItem}
@@ -92,6 +92,10 @@ step-does d {before = before} {now = now} {x = x} same h e a =
     subst (λ (w : Serializer). Does (d w) w before x now) same
     (record { serializer = e ∙ h .serializer; answer = ap answerAs a ∙ h .answer; buffer = h .buffer })
 
+-- an unsound record is handed back, and nothing is written
+pub unsound-does : {d : Written} {w : Serializer} {before : List ℕ} {x : Wrote} → d ≡ refuse 11 w → x .serializer ≡ w → answerAs (x .answer) ≡ refused 11 → Does d w before x before
+unsound-does {w = w} {before = before} h e a = rw h (record { serializer = e; answer = a; buffer = sym (pasted-none before (w .position)) })
+
 -- ---- an item in a list
 
 -- the gap, from the two tests of the code
@@ -146,11 +150,7 @@ module _ (s : Style) (p : Progress) (flags : List Bool) {b : Bool} (flag : getD 
   unfolding closeAs
   close-full-steps g k = rw (close-is s (joined p flags) flag) (full-steps p flags before (closeAs s (joined p flags) b) h g k)
 
--- ---- the end of the text: a wished line break is one of one, another one of none
-
-once : (b : Bool) (l : List ℕ) → repeat (cond b 1 0) l ≡ cond b l []
-once true l = append-nil l
-once false l = refl
+-- ---- the end of the text
 
 counted-as : (b : Bool) (n : ℕ) → n + cond b 1 0 ≡ cond b (n + 1) n
 counted-as true n = refl
@@ -158,10 +158,6 @@ counted-as false n = add-zero n
 
 pub counted : (b : Bool) (n : ℕ) {k : ℕ} → k ≡ cond b 1 0 → n + k ≡ cond b (n + 1) n
 counted b n e = ap (λ (k : ℕ). n + k) e ∙ counted-as b n
-
--- its bytes
-pub last-bytes : (b : Bool) (l : List ℕ) {n : ℕ} → n ≡ cond b 1 0 → repeat n l ≡ cond b l []
-last-bytes b l e = ap (λ (k : ℕ). repeat k l) e ∙ once b l
 
 -- the record after it, from its position and its breaks
 pub last-after : (l : List ℕ) (p : Progress) (flags : List Bool) (wished : Bool) {e b : ℕ} → e ≡ p .position + length (cond wished l []) → b ≡ cond wished (p .breaks + 1) (p .breaks)
@@ -222,11 +218,6 @@ module _ (s : Style) (room : ℕ) (w : Serializer) where
 
 -- an item's call: an atom's or a list's
 module _ (s : Style) (room : ℕ) (w : Serializer) (a : List ℕ) (t : ℕ) where
-  pub item-unsound : (isList : Bool) → isSound w ≡ false → putItem s room w a isList t ≡ refuse 11 w
-  unfolding putItem
-  item-unsound true e = begin-unsound s room w t e
-  item-unsound false e = put-unsound s room w a t e
-
   module _ (e : isSound w ≡ true) where
     pub item-no-atom : (isList : Bool) → (isList || isAtom a) ≡ false → putItem s room w a isList t ≡ refuse 17 w
     unfolding putItem

@@ -6,7 +6,9 @@ use mathlib.Core.List.{List, [], _∷_}
 use Rattle.sise_util.specs.Chars.{within, oneOf, isAtomChr}
 use Rattle.sise_util.specs.Classes.{classOf}
 use Rattle.sise_util.specs.Atom.{isAtom, outside, inside, escaped}
-use Rattle.sise_serializer.specs.Serializer.{Style, style, Answer, refused, accepted, freshSerializer, isSound, place, firstAtom, putIn, putAtom, endIn, endList, finishIn, finishWriting}
+use Rattle.sise_serializer.specs.Serializer.{Style, style, Answer, refused, accepted, freshSerializer, isSound, place, firstAtom, last, putIn, putAtom, endIn, endList, finishIn, finishWriting}
+use Rattle.sise_serializer.specs.Bytes.{pasted}
+use Rattle.sise_serializer.specs.Calls.{putAtomCall, endListCall, finishCall, step, atom, placed, itemAt, run, writing}
 
 -- LF and two spaces
 unfoldable pub house : Style
@@ -35,3 +37,8 @@ rows20and22 =
 rows-20-and-22 : rows20and22 ≡ refused 20 ∷ refused 22 ∷ accepted 0 ∷ []
 unfolding rows20and22 house freshSerializer isSound place firstAtom putIn putAtom finishIn finishWriting isAtom outside inside escaped classOf isAtomChr oneOf within
 rows-20-and-22 = refl
+
+-- a list of calls: `)` is refused and no item, `a` is the one item, and `finish` is none
+one-item : writing house (0 ∷ []) (endListCall ∷ putAtomCall (97 ∷ []) 0 ∷ finishCall false ∷ []) .items ≡ placed (atom (97 ∷ [])) 0 ∷ []
+unfolding house run step itemAt pasted freshSerializer isSound place firstAtom last putIn putAtom endIn endList finishIn finishWriting isAtom outside inside escaped classOf isAtomChr oneOf within
+one-item = refl

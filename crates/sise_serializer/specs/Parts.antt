@@ -25,6 +25,10 @@ tokenOf isList a = cond isList (40 ∷ []) a
 abbrev pub gapBytes : Bool → List ℕ
 gapBytes joins = cond joins [] (32 ∷ [])
 
+-- what ends the text: the line break l if wished
+abbrev pub breakBytes : Bool → List ℕ → List ℕ
+breakBytes wished l = cond wished l []
+
 -- an item before all others
 abbrev pub firstItem : Serializer → List ℕ → Bool → Piece
 firstItem w a isList = cond isList (firstList w) (firstAtom w a)

@@ -1,11 +1,12 @@
 // Bytes into a lent buffer: where a token goes, and layout and a token written there.
 ghost use mathlib.Core.Path.{_≡_};
-ghost use mathlib.Core.List.{_++_};
-ghost use Prim.Native.Nat.{_+_, _*_, _≤_, min};
+ghost use mathlib.Core.Bool.{true};
+ghost use mathlib.Core.List.{[], _∷_, _++_};
+ghost use Prim.Native.Nat.{_+_, _*_, _≤_, _<_, min};
 ghost use lib.Dec.{leb};
-ghost use lib.ListN.{length};
+ghost use lib.ListN.{length, getD};
 ghost use Rattle.sise_serializer.specs.Bytes.{pasted, pastedIf, repeat};
-ghost use Rattle.sise_serializer.specs.Parts.{spotOf, tokenOf, gapBytes};
+ghost use Rattle.sise_serializer.specs.Parts.{spotOf, tokenOf, gapBytes, breakBytes};
 
 // The longest text.
 pub const LIMIT: usize = 16777216;
@@ -66,15 +67,48 @@ pub(crate) fn find_spot(
     Spot::NoRoom
 }
 
-// Copies `src` to the bytes of `buf` that begin at `at`.
+// Copies `src` to the bytes of `buf` that begin at `at`. One byte, as most line breaks are, needs no loop.
 fn copy(buf: &mut [u8], at: usize, src: &[u8])
     requires { ⌜ at + length (now src) ≤ length (now buf) ⌝ }
     ensures { λ _. ⌜ now (buf .exit) ≡ pasted (now (buf .entry)) at (now (src .entry)) ⌝ }
 {
+    if src.len() == 1 {
+        buf[at] = src[0];
+        return;
+    }
     let mut i = 0;
     while i < src.len() {
         buf[at + i] = src[i];
         i += 1;
+    }
+}
+
+// Whether `src` is one byte, once or more often, as most indentations are.
+fn is_uniform(src: &[u8]) -> bool
+    ensures { λ r. ⌜ (r ≡ true → (0 < length (now (src .entry))) × (now (src .entry) ≡ repeat (length (now (src .entry))) (getD (now (src .entry)) 0 0 ∷ []))) ⌝ }
+{
+    if src.len() == 0 {
+        return false;
+    }
+    let mut k = 0;
+    while k < src.len() {
+        if src[k] != src[0] {
+            return false;
+        }
+        k += 1;
+    }
+    true
+}
+
+// Sets `times` bytes from `at` on to `byte`.
+fn fill(buf: &mut [u8], at: usize, times: usize, byte: u8)
+    requires { ⌜ at + times ≤ length (now buf) ⌝ }
+    ensures { λ _. ⌜ now (buf .exit) ≡ pasted (now (buf .entry)) at (repeat times (byte ∷ [])) ⌝ }
+{
+    let mut k = 0;
+    while k < times {
+        buf[at + k] = byte;
+        k += 1;
     }
 }
 
@@ -84,6 +118,10 @@ fn copies(buf: &mut [u8], at: usize, times: usize, src: &[u8]) -> usize
     ensures { λ r. ⌜ r ≡ at + length (repeat times (now (src .entry))) ⌝ }
     ensures { λ _. ⌜ now (buf .exit) ≡ pasted (now (buf .entry)) at (repeat times (now (src .entry))) ⌝ }
 {
+    if is_uniform(src) {
+        fill(buf, at, times * src.len(), src[0]);
+        return at + times * src.len();
+    }
     let mut k = 0;
     let mut to = at;
     while k < times {
@@ -136,6 +174,23 @@ pub(crate) fn write_token(buf: &mut [u8], at: usize, atom: &[u8], is_list: bool)
         buf[at] = 40;
     } else {
         copy(buf, at, atom);
+    }
+}
+
+// The bytes of the line break at the end of the text, if wished.
+pub(crate) fn break_len(line_break: &[u8], wished: bool) -> usize
+    ensures { λ r. ⌜ r ≡ length (breakBytes wished (now («line_break» .entry))) ⌝ }
+{
+    if wished { line_break.len() } else { 0 }
+}
+
+// The line break at the end of the text, if wished.
+pub(crate) fn write_break(buf: &mut [u8], at: usize, line_break: &[u8], wished: bool)
+    requires { ⌜ at + length (breakBytes wished (now «line_break»)) ≤ length (now buf) ⌝ }
+    ensures { λ _. ⌜ now (buf .exit) ≡ pasted (now (buf .entry)) at (breakBytes wished (now («line_break» .entry))) ⌝ }
+{
+    if wished {
+        copy(buf, at, line_break);
     }
 }
 

@@ -1,10 +1,12 @@
-// The writer's calls as steps over a small record. The flags, which are large, are lent beside it. A step finds out whether it fits before it writes.
+// The writer's calls as steps over a sound record without its flags, which are large and lent beside it. A step finds out whether it fits before it writes.
 // Each arm of a `match` returns by itself: what an arm yields would be copied once more. An atom and a list take one way through one function each:
 // a function with one caller becomes a part of it, and then the record stays in registers.
 use crate::buffer::LIMIT;
 use crate::buffer::Spot;
+use crate::buffer::break_len;
 use crate::buffer::find_spot;
 use crate::buffer::token_len;
+use crate::buffer::write_break;
 use crate::buffer::write_gap;
 use crate::buffer::write_line;
 use crate::buffer::write_token;
@@ -12,6 +14,7 @@ use crate::serializer::Phase;
 use crate::serializer::Put;
 use crate::serializer::Serializer;
 use sise_util::check_atom;
+use sise_util::is_plain;
 ghost use mathlib.Core.Path.{_≡_};
 ghost use mathlib.Core.Bool.{Bool, true, false, _||_, cond};
 ghost use mathlib.Core.List.{List, []};
@@ -71,7 +74,7 @@ fn last_break(phase: Phase) -> usize
 }
 
 // A writer before the first item, at the start of its buffer. All its flags are off.
-pub fn fresh_progress() -> Progress
+pub(crate) fn fresh_progress() -> Progress
     ensures { λ r. ⌜ joined r (replicate deepest false) ≡ freshSerializer ⌝ }
 {
     Progress {
@@ -335,7 +338,7 @@ fn inner(
 fn is_item(atom: &[u8], is_list: bool) -> bool
     ensures { λ r. ⌜ r ≡ («is_list» || isAtom (now (atom .entry))) ⌝ }
 {
-    if is_list {
+    if is_list || is_plain(atom) {
         return true;
     }
     check_atom(atom)
@@ -353,7 +356,7 @@ fn is_too_deep(lists: usize, is_list: bool) -> bool
 }
 
 // Begins a list, or checks an atom and puts it. Inside a list it goes on a new line if the line is at least `break_line_at` bytes long.
-pub fn item_step(
+pub(crate) fn item_step(
     progress: Progress,
     flags: &mut Flags,
     line_break: &[u8],
@@ -363,11 +366,9 @@ pub fn item_step(
     is_list: bool,
     break_line_at: u64,
 ) -> Step
+    requires { ⌜ isSound (joined progress (now flags)) ≡ true ⌝ }
     ensures { λ r. ⌜ Steps (putItem (style (now («line_break» .entry)) (now (indentation .entry))) (length (now (buf .entry))) (joined progress (now (flags .entry))) (now (atom .entry)) «is_list» «break_line_at») (joined progress (now (flags .entry))) (now (buf .entry)) r (now (flags .exit)) (now (buf .exit)) ⌝ }
 {
-    if !progress.is_sound() {
-        return refused(progress, Put::UnsoundRecord);
-    }
     if !is_item(atom, is_list) {
         return refused(progress, Put::InvalidAtom);
     }
@@ -494,18 +495,16 @@ fn close(
 }
 
 // Ends the innermost list that is open.
-pub fn end_step(
+pub(crate) fn end_step(
     progress: Progress,
     flags: &mut Flags,
     line_break: &[u8],
     indentation: &[u8],
     buf: &mut [u8],
 ) -> Step
+    requires { ⌜ isSound (joined progress (now flags)) ≡ true ⌝ }
     ensures { λ r. ⌜ Steps (endList (style (now («line_break» .entry)) (now (indentation .entry))) (length (now (buf .entry))) (joined progress (now (flags .entry)))) (joined progress (now (flags .entry))) (now (buf .entry)) r (now (flags .exit)) (now (buf .exit)) ⌝ }
 {
-    if !progress.is_sound() {
-        return refused(progress, Put::UnsoundRecord);
-    }
     let phase = progress.phase;
     match phase {
         Phase::Beginning => return refused(progress, Put::NoListToEnd),
@@ -515,7 +514,7 @@ pub fn end_step(
     }
 }
 
-// How often the line break of finish is written.
+// How many line breaks finish writes.
 fn one_if(wished: bool) -> usize
     ensures { λ r. ⌜ r ≡ cond wished 1 0 ⌝ }
 {
@@ -528,10 +527,10 @@ fn last(progress: Progress, line_break: &[u8], buf: &mut [u8], insert_line_break
     ensures { λ r. ⌜ ((flags : List Bool) → Steps (place (length (now (buf .entry))) (joined progress flags) (last (style (now («line_break» .entry)) []) (joined progress flags) «insert_line_break»)) (joined progress flags) (now (buf .entry)) r flags (now (buf .exit))) ⌝ }
 {
     let position = progress.position;
-    let times = one_if(insert_line_break);
-    match find_spot(position, buf.len(), 0, times, line_break.len(), 0) {
+    let lead = break_len(line_break, insert_line_break);
+    match find_spot(position, buf.len(), lead, 0, 0, 0) {
         Spot::At(at, end) => {
-            write_line(buf, position, b"", times, line_break);
+            write_break(buf, position, line_break, insert_line_break);
             return Step {
                 progress: Progress {
                     position: end,
@@ -540,7 +539,7 @@ fn last(progress: Progress, line_break: &[u8], buf: &mut [u8], insert_line_break
                     list_beginning: progress.list_beginning,
                     line_len: progress.line_len,
                     spaces: progress.spaces,
-                    breaks: progress.breaks + times,
+                    breaks: progress.breaks + one_if(insert_line_break),
                     indents: progress.indents,
                 },
                 answer: Put::At(at),
@@ -551,7 +550,7 @@ fn last(progress: Progress, line_break: &[u8], buf: &mut [u8], insert_line_break
 }
 
 // Finishes the text. Only after that is it whole. `indentation` and `flags` are unused: every step takes the same.
-pub fn finish_step(
+pub(crate) fn finish_step(
     progress: Progress,
     flags: &mut Flags,
     line_break: &[u8],
@@ -559,11 +558,9 @@ pub fn finish_step(
     buf: &mut [u8],
     insert_line_break: bool,
 ) -> Step
+    requires { ⌜ isSound (joined progress (now flags)) ≡ true ⌝ }
     ensures { λ r. ⌜ Steps (finishWriting (style (now («line_break» .entry)) (now (indentation .entry))) (length (now (buf .entry))) (joined progress (now (flags .entry))) «insert_line_break») (joined progress (now (flags .entry))) (now (buf .entry)) r (now (flags .exit)) (now (buf .exit)) ⌝ }
 {
-    if !progress.is_sound() {
-        return refused(progress, Put::UnsoundRecord);
-    }
     let phase = progress.phase;
     match phase {
         Phase::Beginning => return refused(progress, Put::WritingNotFinished),

@@ -1,13 +1,13 @@
 // The reader's and the writer's calls made one at a time, for a program that measures them. It is a library of its own: where two callers share the steps,
 // the compiler joins them into neither, and both are slower.
-use sise_layout::write_calls_singly;
 use sise_parser::Answer;
 use sise_parser::Reader;
+use sise_serializer::write_calls_singly;
 ghost use mathlib.Core.Path.{_≡_};
 ghost use lib.ListN.{length};
 ghost use Rattle.sise_serializer.specs.Serializer.{style};
-ghost use Rattle.sise_layout.specs.Calls.{writing};
-ghost use Rattle.sise_layout.specs.Words.{callsOf};
+ghost use Rattle.sise_serializer.specs.Calls.{writing};
+ghost use Rattle.sise_serializer.specs.Words.{callsOf};
 ghost use Rattle.sise_c.specs.Written.{Writes};
 ghost use Rattle.sise_singly.specs.Count.{countItems};
 

@@ -21,9 +21,9 @@ use Rattle.sise_serializer.specs.declared.serializer.Serializer.{Serializer}
 use Rattle.sise_serializer.proofs.serializer.Put as puts
 use Rattle.sise_serializer.proofs.Does.{put-unsound, begin-unsound, end-unsound, finish-unsound}
 use Rattle.sise_serializer.proofs.Sound.{sound}
-use Rattle.sise_layout.specs.Calls.{Call, putAtomCall, beginListCall, endListCall, finishCall, step, run}
+use Rattle.sise_serializer.specs.Calls.{Call, putAtomCall, beginListCall, endListCall, finishCall, step, run}
 use Rattle.sise_layout.proofs.Buffers.{pasted-length}
-use Rattle.sise_layout.proofs.Verdicts.{Puts, atomAlone, atomInside, listFirst, listInside, listClosed, textEnded, Verdict, refuses, puts, verdict}
+use Rattle.sise_serializer.proofs.Verdicts.{Puts, atomAlone, atomInside, listFirst, listInside, listClosed, textEnded, Verdict, refuses, puts, verdict}
 use Rattle.sise_tree.specs.Tree.{kind, first, second}
 use Rattle.sise_tree_writer.specs.SerializeTree.{fits}
 use Rattle.sise_tree_writer.specs.Writing.{callAt}

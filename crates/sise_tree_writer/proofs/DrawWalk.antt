@@ -22,8 +22,8 @@ use Rattle.sise_serializer.specs.declared.serializer.Put.the-variants.{At}
 use Rattle.sise_serializer.specs.declared.steps.Progress.{Progress}
 use Rattle.sise_serializer.specs.declared.steps.Step.{Step}
 use Rattle.sise_serializer.proofs.Sound.{sound, writing-lists}
-use Rattle.sise_layout.specs.Calls.{largest, Call, putAtomCall, beginListCall, endListCall, finishCall, step, run}
-use Rattle.sise_layout.proofs.Verdicts.{Puts, atomAlone, atomInside, listFirst, listInside, listClosed, textEnded}
+use Rattle.sise_serializer.specs.Calls.{largest, Call, putAtomCall, beginListCall, endListCall, finishCall, step, run}
+use Rattle.sise_serializer.proofs.Verdicts.{Puts, atomAlone, atomInside, listFirst, listInside, listClosed, textEnded}
 use Rattle.sise_tree.specs.Tree.{Node, atom, list, kind, first, second, span}
 use Rattle.sise_tree.specs.Decision.{decide}
 use Rattle.sise_tree_writer.specs.SerializeTree.{nodeCalls, fits}

@@ -19,8 +19,8 @@ use Rattle.sise_serializer.specs.declared.serializer.Phase.{Phase}
 use Rattle.sise_serializer.specs.declared.serializer.Phase.the-variants.{Beginning, Writing, Finished, Done}
 use Rattle.sise_serializer.specs.declared.serializer.Serializer.{Serializer}
 use Rattle.sise_serializer.proofs.Does.{put-sound, put-in, begin-sound, begin-inner, end-sound}
-use Rattle.sise_layout.specs.Calls.{Call, putAtomCall, beginListCall, endListCall, step}
-use Rattle.sise_layout.proofs.Verdicts.{endOf}
+use Rattle.sise_serializer.specs.Calls.{Call, putAtomCall, beginListCall, endListCall, step}
+use Rattle.sise_serializer.proofs.Verdicts.{endOf}
 use Rattle.sise_tree.specs.Tree.{kind, first, second}
 use Rattle.sise_tree_writer.specs.SerializeTree.{isOver}
 use Rattle.sise_tree_writer.specs.Writing.{turnCall, Ready}

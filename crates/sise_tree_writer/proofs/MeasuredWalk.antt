@@ -23,7 +23,7 @@ use Rattle.sise_serializer.specs.declared.serializer.Serializer.{Serializer}
 use Rattle.sise_serializer.specs.declared.steps.Progress.{Progress}
 use Rattle.sise_serializer.proofs.Sound.{sound, small, writing-lists}
 use Rattle.sise_serializer.proofs.Does.{put-sound, put-in, begin-sound, begin-too-deep, end-sound, finish-sound}
-use Rattle.sise_layout.specs.Calls.{largest, Call, putAtomCall, beginListCall, endListCall, finishCall, step, run}
+use Rattle.sise_serializer.specs.Calls.{largest, Call, putAtomCall, beginListCall, endListCall, finishCall, step, run}
 use Rattle.sise_tree.specs.Tree.{Node, depth, kind, first, second, span}
 use Rattle.sise_tree.specs.Decision.{decide}
 use Rattle.sise_tree_writer.specs.SerializeTree.{fits, isOver}

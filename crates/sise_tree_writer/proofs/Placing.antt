@@ -11,8 +11,8 @@ use Rattle.sise_serializer.specs.Serializer as writer
 use Rattle.sise_serializer.specs.Serializer.{Style, Piece, Written, limit, isSound, place, firstAtom, firstList, inner, innerAs, close, closeAs, last, putIn, beginIn, endIn, finishIn}
 use Rattle.sise_serializer.specs.declared.serializer.Serializer.{Serializer}
 use Rattle.sise_serializer.proofs.Does.{put-sound, put-in, begin-sound, begin-inner, end-sound, finish-sound}
-use Rattle.sise_layout.specs.Calls.{isAccepted, Call, step}
-use Rattle.sise_layout.proofs.Verdicts.{endOf, put, Puts, atomAlone, atomInside, listFirst, listInside, listClosed, textEnded, Verdict, refuses, puts, verdict}
+use Rattle.sise_serializer.specs.Calls.{isAccepted, Call, step}
+use Rattle.sise_serializer.proofs.Verdicts.{endOf, put, Puts, atomAlone, atomInside, listFirst, listInside, listClosed, textEnded, Verdict, refuses, puts, verdict}
 use Rattle.sise_tree_writer.specs.SerializeTree.{fits}
 use Rattle.sise_tree_writer.proofs.CallLaws.{unsound}
 

@@ -14,7 +14,8 @@ use Rattle.sise_parser.specs.Reader.{partOf, nextItem, next, freshReader, finis
 use Rattle.sise_layout.specs.Reading.{asRead, Stands}
 use Rattle.sise_serializer.specs.Serializer.{Style, Answer, accepted, refused, freshSerializer}
 use Rattle.sise_serializer.specs.declared.serializer.Serializer.{Serializer}
-use Rattle.sise_layout.specs.Calls.{largest, isAccepted, Call, putAtomCall, beginListCall, endListCall, finishCall, step, Item, atom as Item·atom, listStart, listEnd, Placed, placed, itemAt, itemOf, itemsOf, writing, textOf, Blank}
+use Rattle.sise_serializer.specs.Calls.{largest, isAccepted, Call, putAtomCall, beginListCall, endListCall, finishCall, step, Item, atom as Item·atom, listStart, listEnd, Placed, placed, itemAt, itemOf, itemsOf, writing}
+use Rattle.sise_layout.specs.Texts.{textOf, Blank}
 use Rattle.sise_layout.proofs.Written.{writes}
 use Rattle.sise_layout.proofs.Ended.{finished-done}
 use Rattle.sise_layout.proofs.ReadBack.{follows}

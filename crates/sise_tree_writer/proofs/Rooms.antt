@@ -14,10 +14,11 @@ use Rattle.sise_serializer.specs.Bytes.{pasted}
 use Rattle.sise_serializer.specs.Serializer as writer
 use Rattle.sise_serializer.specs.Serializer.{Style, Written, limit, freshSerializer}
 use Rattle.sise_serializer.specs.declared.serializer.Serializer.{Serializer}
-use Rattle.sise_layout.specs.Calls.{isAccepted, Call, step, run, writing, textOf}
+use Rattle.sise_serializer.specs.Calls.{isAccepted, Call, step, run, writing}
+use Rattle.sise_layout.specs.Texts.{textOf}
 use Rattle.sise_layout.proofs.Buffers.{pasted-length, same-text}
 use Rattle.sise_layout.proofs.Written.{writes}
-use Rattle.sise_layout.proofs.Verdicts.{endOf}
+use Rattle.sise_serializer.proofs.Verdicts.{endOf}
 use Rattle.sise_tree_writer.specs.SerializeTree.{fits}
 use Rattle.sise_tree_writer.proofs.CallLaws.{fits-off}
 use Rattle.sise_tree_writer.proofs.Placing.{placed, not-placed, puts-end, puts-place, put-fits, Lands, lands, lands-put, fits-lands}

@@ -17,7 +17,7 @@ use Rattle.sise_serializer.specs.declared.serializer.Phase.the-variants.{Done}
 use Rattle.sise_serializer.specs.declared.serializer.Serializer.{Serializer}
 use Rattle.sise_serializer.proofs.Bytes.{layout-length}
 use Rattle.sise_serializer.proofs.Does.{gap-new-line, gap-nothing, gap-space, inner-is, nothing-is, space-is}
-use Rattle.sise_layout.proofs.Verdicts.{endOf}
+use Rattle.sise_serializer.proofs.Verdicts.{endOf}
 use Rattle.sise_tree_writer.specs.Measuring.{clip, itemAfter, firstAfter, closeAfterAs, closeAfter}
 
 -- a piece p with a token of n bytes leads from w to v, or both lie past the limit

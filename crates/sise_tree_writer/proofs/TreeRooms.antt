@@ -13,7 +13,7 @@ use borrow.Author.Tests.{le-leb, lt-leb}
 use Rattle.sise_util.proofs.Ranges.{split}
 use Rattle.sise_serializer.specs.Serializer.{Style, limit, deepest, isSound, freshSerializer}
 use Rattle.sise_serializer.specs.declared.serializer.Serializer.{Serializer}
-use Rattle.sise_layout.specs.Calls.{Call, run}
+use Rattle.sise_serializer.specs.Calls.{Call, run}
 use Rattle.sise_tree.specs.Tree.{Node, depth}
 use Rattle.sise_tree.specs.Decision.{decide}
 use Rattle.sise_tree.specs.ParseTree.{longest}

@@ -13,7 +13,7 @@ use borrow.Author.Tests.{ltb-true, lt-ltb, le-ltb, ltb-false, eqb-true, eq-eqb}
 use Rattle.sise_util.proofs.Ranges.{split, and-first, and-second, both}
 use Rattle.sise_parser.specs.Reader.{partOf}
 use Rattle.sise_serializer.specs.Serializer.{deepest}
-use Rattle.sise_layout.specs.Calls.{largest, Call, putAtomCall, beginListCall, endListCall}
+use Rattle.sise_serializer.specs.Calls.{largest, Call, putAtomCall, beginListCall, endListCall}
 use Rattle.sise_tree.specs.Tree.{Node, atom, list, Nodes, empty, _then_, size, sizes, depth, depths, table, tables, kind, first, second, span}
 use Rattle.sise_tree.specs.Decision.{decide, isSome}
 use Rattle.sise_tree_writer.specs.SerializeTree.{nodeCalls, rowCalls}

@@ -3,22 +3,20 @@
 use Prim.Native.Nat.{ℕ, _+_, _-_, _≤_, _<_}
 use native.Mathlib.Omega.{arith}
 use mathlib.Core.Path.{_≡_, refl, sym, ap, _∙_}
-use mathlib.Core.Bool.{Bool, true, false, _&&_, false≢true}
+use mathlib.Core.Bool.{Bool, true, false, _&&_}
 use mathlib.Core.Option.{some, Option·some-injective}
-use mathlib.Core.List.{List, [], _∷_}
-use lib.Dec.{leb, ltb, eqb}
-use lib.ListN.{length, take, drop, length-take, length-drop}
+use mathlib.Core.List.{List}
+use lib.Dec.{leb}
+use lib.ListN.{length, take, drop, length-drop}
 use lib.Seq.{take-all}
-use borrow.Author.Tests.{leb-true, le-leb, ltb-true, eqb-true, eq-eqb}
-use Rattle.sise_util.specs.Chars.{isAtomChr}
-use Rattle.sise_util.specs.Atom.{outside, isAtom, isAtomPrefix}
-use Rattle.sise_util.proofs.Ranges.{split, both, and-first, and-second}
-use Rattle.sise_util.proofs.AtomLaws.{outside-cons}
-use Rattle.sise_parser.specs.Plain.{atomRun}
+use borrow.Author.Tests.{leb-true, le-leb, eq-eqb}
+use Rattle.sise_util.specs.Atom.{isAtom, isPlain, isAtomPrefix}
+use Rattle.sise_util.proofs.Ranges.{both}
+use Rattle.sise_util.proofs.AtomLaws.{plain-atom}
 use Rattle.sise_tree.specs.Tree.{Node, atom, list, Nodes, empty, _then_, size, sizes, kind, first, second, span, lies, liesAll}
 use Rattle.sise_tree.specs.Decision.{decide, isSome}
 use Rattle.sise_tree_writer.specs.SerializeTree.{atomsHold, atomsHoldAll}
-use Rattle.sise_tree_writer.specs.Writing.{InTable, isPlain, atomHoldsAt}
+use Rattle.sise_tree_writer.specs.Writing.{InTable, atomHoldsAt}
 use Rattle.sise_tree.proofs.TreeLaws.{anded, size-pos}
 use Rattle.sise_tree.proofs.LocalLaws.{held}
 use Rattle.sise_tree_writer.proofs.Walk.{join, flat, Rest, atom-here, list-here, root-rest}
@@ -41,36 +39,14 @@ unfolding join liesAll
 lie-join l empty x h g = g
 lie-join l (n then c) x h g = anded {a = lies l n} h λ here more. both _ _ here (lie-join l c x more g)
 
--- a run of atom characters to the end is an atom with no string in it
-run-outside : (l : List ℕ) (p : ℕ) → atomRun l p ≡ p + length l → outside l ≡ true
-unfolding atomRun outside isAtomChr
-run-outside [] p h = refl
-run-outside (b ∷ l) p h =
-    split (isAtomChr b)
-    (λ e.
-    split (eqb b 34)
-    (λ q. absurd (false≢true (ap isAtomChr (sym (eqb-true b 34 q)) ∙ e)))
-    (λ q. outside-cons b l ∙ rw (q, e) (run-outside l (p + 1) ((rw (e, atomRun) at h) ∙ omega arith))))
-    (λ e. absurd (omega (arith, rw (e, atomRun) at h)))
-
-nonempty : (l : List ℕ) → 0 < length l → outside l ≡ true → isAtom l ≡ true
-unfolding isAtom
-nonempty [] h e = absurd (omega arith)
-nonempty (b ∷ l) h e = e
-
-pub plain-prefix : (text : List ℕ) (p n : ℕ) → p + n ≤ length text → isPlain text p n ≡ true → isAtomPrefix (drop p text) n ≡ true
-unfolding isPlain isAtomPrefix
-plain-prefix text p n fit h =
-    let pos = ltb-true 0 n (and-first (ltb 0 n) _ h) in
-    let ran : atomRun (take n (drop p text)) 0 ≡ n = eqb-true _ _ (and-second (ltb 0 n) (eqb (atomRun (take n (drop p text)) 0) n) h) in
-    let size : length (take n (drop p text)) ≡ n = omega (arith, length-take n (drop p text), length-drop p text) in
-    both _ _ (le-leb n (length (drop p text)) (omega (arith, length-drop p text)))
-    (nonempty (take n (drop p text)) (omega arith) (run-outside (take n (drop p text)) 0 (ran ∙ omega arith)))
-
+-- an atom with no string in it is the atom of its place
 pub atom-plain : (text words : List ℕ) (i : ℕ) {p m : ℕ} → kind words i ≡ 1 → p ≡ first words i → m ≡ second words i → p + m ≤ length text
-    → isPlain text p m ≡ true → true ≡ atomHoldsAt text words i
-unfolding atomHoldsAt
-atom-plain text words i {p} {m} k ep em fit h = sym (rw (eq-eqb _ _ k, ← ep, ← em) (plain-prefix text p m fit h))
+    → isPlain (take (p + m - p) (drop p text)) ≡ true → true ≡ atomHoldsAt text words i
+unfolding atomHoldsAt isAtomPrefix
+atom-plain text words i {p} {m} k ep em fit h =
+    let size : m ≡ p + m - p = omega arith in
+    sym (rw (eq-eqb _ _ k, ← ep, ← em)
+    (both _ _ (le-leb m (length (drop p text)) (omega (arith, length-drop p text))) (ap (λ (z : ℕ). isAtom (take z (drop p text))) size ∙ plain-atom _ h)))
 
 -- the check of the rest of the text from the place of an atom is node i's
 pub atom-checked : (text words : List ℕ) (i : ℕ) {p m : ℕ} {r : Bool} → kind words i ≡ 1 → p ≡ first words i → m ≡ second words i

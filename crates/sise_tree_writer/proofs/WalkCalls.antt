@@ -18,7 +18,7 @@ use Rattle.sise_serializer.specs.Serializer.{Style, Written, answerAs, deepest}
 use Rattle.sise_serializer.specs.Steps.{joined}
 use Rattle.sise_serializer.specs.declared.serializer.Serializer.{Serializer}
 use Rattle.sise_serializer.specs.declared.steps.Step.{Step}
-use Rattle.sise_layout.specs.Calls.{largest, Call, putAtomCall, beginListCall, endListCall, finishCall, step}
+use Rattle.sise_serializer.specs.Calls.{largest, Call, putAtomCall, beginListCall, endListCall, finishCall, step}
 use Rattle.sise_tree.specs.Tree.{Node, atom, Nodes, empty, _then_, depth, kind, first, second, span}
 use Rattle.sise_tree.specs.Decision.{decide}
 use Rattle.sise_tree_writer.specs.SerializeTree.{nodeCalls, rowCalls, atomsHold, atomsHoldAll, fits}

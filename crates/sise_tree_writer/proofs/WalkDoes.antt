@@ -17,8 +17,8 @@ use Rattle.sise_serializer.specs.declared.steps.Progress.{Progress}
 use Rattle.sise_serializer.proofs.Sound.{sound}
 use types.Run.{OneOf}
 use denote.Enum.Declared.{tagOf}
-use Rattle.sise_layout.specs.Calls.{Call, step, run}
-use Rattle.sise_layout.proofs.Running.{no-zero}
+use Rattle.sise_serializer.specs.Calls.{Call, step, run}
+use Rattle.sise_serializer.proofs.Running.{no-zero}
 use Rattle.sise_tree.specs.Tree.{Node, depth}
 use Rattle.sise_tree.specs.Decision.{decide, isSome}
 use Rattle.sise_tree.specs.ParseTree.{longest}

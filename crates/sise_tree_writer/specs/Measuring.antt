@@ -15,7 +15,7 @@ use Rattle.sise_serializer.specs.declared.serializer.Phase.{Phase}
 use Rattle.sise_serializer.specs.declared.serializer.Phase.the-variants.{Beginning, Writing, Finished, Done}
 use Rattle.sise_serializer.specs.declared.serializer.Serializer.{Serializer}
 use Rattle.sise_serializer.specs.declared.steps.Progress.{Progress}
-use Rattle.sise_layout.specs.Calls.{Call, run}
+use Rattle.sise_serializer.specs.Calls.{Call, run}
 use Rattle.sise_tree.specs.Tree.{kind, second}
 use Rattle.sise_tree_writer.specs.SerializeTree.{fits}
 use Rattle.sise_tree_writer.specs.Writing.{firstAnswer}

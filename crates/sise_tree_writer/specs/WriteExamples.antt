@@ -13,7 +13,7 @@ use Rattle.sise_serializer.specs.Bytes.{pasted}
 use Rattle.sise_serializer.specs.Serializer.{deepest, freshSerializer, isSound, place, firstAtom, firstList, laid, innerAs, inner, phaseAfter, flagsAfter, closeAs, close, last, putIn, putAtom, beginIn, beginList, endIn, endList, finishIn, finishWriting}
 use Rattle.sise_serializer.specs.declared.serializer.Phase.the-variants.{Writing}
 use Rattle.sise_serializer.specs.declared.serializer.Serializer.{Serializer}
-use Rattle.sise_layout.specs.Calls.{largest, step, run}
+use Rattle.sise_serializer.specs.Calls.{largest, step, run}
 use Rattle.sise_tree.specs.Tree.{size, sizes, children, depth, depths, table, tables}
 use Rattle.sise_tree.specs.Decision.{guard, bind, row, ahead, only, decide}
 use Rattle.sise_tree.specs.TableExamples.{text, worked as tree}

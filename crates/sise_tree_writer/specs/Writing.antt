@@ -6,14 +6,13 @@ use mathlib.Core.Bool.{Bool, true, false, _&&_, cond}
 use mathlib.Core.Option.{some}
 use mathlib.Core.List.{List, [], _∷_, _++_}
 use lib.Dec.{leb, ltb, eqb}
-use lib.ListN.{length, getD, take, drop, set}
+use lib.ListN.{length, getD, drop, set}
 use Rattle.sise_util.specs.Atom.{isAtom, isAtomPrefix}
-use Rattle.sise_parser.specs.Plain.{atomRun}
 use Rattle.sise_parser.specs.Reader.{partOf}
 use Rattle.sise_serializer.specs.Serializer as writer
 use Rattle.sise_serializer.specs.Serializer.{Style, deepest}
 use Rattle.sise_serializer.specs.declared.serializer.Serializer.{Serializer}
-use Rattle.sise_layout.specs.Calls.{Call, putAtomCall, beginListCall, endListCall, finishCall, step}
+use Rattle.sise_serializer.specs.Calls.{Call, putAtomCall, beginListCall, endListCall, finishCall, step}
 use Rattle.sise_tree.specs.Tree.{Node, kind, first, second, span}
 use Rattle.sise_tree_writer.specs.declared.serialize.Place.{Place}
 use Rattle.sise_tree.specs.Decision.{decide, isSome}
@@ -33,10 +32,6 @@ textCalls text t false = treeCalls text t
 pub record InTable (text words : List ℕ) (i : ℕ) : Type 0 where
   pub there : 4 * (i + 1) ≤ length words
   pub inText : kind words i ≡ 1 → first words i + second words i ≤ length text
-
--- the n bytes from p on are one atom character or more
-unfoldable pub isPlain : List ℕ → ℕ → ℕ → Bool
-isPlain text p n = ltb 0 n && eqb (atomRun (take n (drop p text)) 0) n
 
 -- node i, if an atom, is one
 unfoldable pub atomHoldsAt : List ℕ → List ℕ → ℕ → Bool

@@ -2,7 +2,6 @@
 use crate::measure::Measured;
 use crate::measure::measure_nodes;
 use crate::write::write_nodes;
-use sise_parser::atom_run;
 use sise_serializer::DEEPEST;
 use sise_serializer::Flags;
 use sise_serializer::Phase;
@@ -12,6 +11,7 @@ use sise_tree::LONGEST;
 use sise_tree::holds_tree;
 use sise_tree::wide;
 use sise_util::check_atom_prefix;
+use sise_util::is_plain;
 ghost use mathlib.Core.Path.{_≡_};
 ghost use mathlib.Core.Bool.{true, false, _||_, cond};
 ghost use mathlib.Core.Option.{some};
@@ -20,13 +20,13 @@ ghost use Prim.Native.Nat.{ℕ, _+_, _*_, _≤_};
 ghost use lib.Dec.{ltb, eqb};
 ghost use lib.ListN.{length};
 ghost use Rattle.sise_serializer.specs.Serializer.{style, isSound, deepest};
-ghost use Rattle.sise_layout.specs.Calls.{largest};
+ghost use Rattle.sise_serializer.specs.Calls.{largest};
 ghost use Rattle.sise_tree.specs.Tree.{Node, depth};
 ghost use Rattle.sise_tree.specs.Decision.{decide, isSome};
 ghost use Rattle.sise_tree.specs.Answers.{numberOf};
 ghost use Rattle.sise_tree_writer.specs.Answers.{putAs};
 ghost use Rattle.sise_tree_writer.specs.SerializeTree.{atomsHold, isOver, writeNode, writeTree, serializeTree, DoesWrite, DoesMeasure};
-ghost use Rattle.sise_tree_writer.specs.Writing.{textCalls, InTable, isPlain, atomHoldsAt, closesAt, isFull, Passable, Passed, Checked};
+ghost use Rattle.sise_tree_writer.specs.Writing.{textCalls, InTable, atomHoldsAt, closesAt, isFull, Passable, Passed, Checked};
 
 // The largest threshold: no line is that long.
 const LARGEST: u64 = 18446744073709551615;
@@ -79,18 +79,6 @@ pub(crate) fn is_over(phase: Phase) -> bool
     }
 }
 
-// Whether the `len` bytes from `place` on, which lie in the text, are one atom character or more: an atom with no string in it, as most are. It spares
-// them the longer check.
-fn is_plain(text: &[u8], place: usize, len: usize) -> bool
-    requires { ⌜ place + len ≤ length (now text) ⌝ }
-    ensures { λ r. ⌜ r ≡ isPlain (now (text .entry)) place len ⌝ }
-{
-    if len == 0 {
-        return false;
-    }
-    atom_run(&text[place..place + len], 0) == len
-}
-
 // Whether node `i`, if an atom, is one.
 fn atom_holds(text: &[u8], table: &[u32], i: usize) -> bool
     requires { ⌜ InTable (now text) (now table) i ⌝ }
@@ -101,7 +89,7 @@ fn atom_holds(text: &[u8], table: &[u32], i: usize) -> bool
     }
     let place = wide(table[4 * i + 1]);
     let len = wide(table[4 * i + 2]);
-    if is_plain(text, place, len) {
+    if is_plain(&text[place..place + len]) {
         return true;
     }
     check_atom_prefix(&text[place..], len)

@@ -21,7 +21,7 @@ ghost use Rattle.sise_parser.specs.Reader.{partOf};
 ghost use Rattle.sise_serializer.specs.Bytes.{pasted};
 ghost use Rattle.sise_serializer.specs.Serializer.{style};
 ghost use Rattle.sise_serializer.specs.Steps.{joined};
-ghost use Rattle.sise_layout.specs.Calls.{run};
+ghost use Rattle.sise_serializer.specs.Calls.{run};
 ghost use Rattle.sise_tree.specs.Tree.{Node, first, second};
 ghost use Rattle.sise_tree.specs.Decision.{decide};
 ghost use Rattle.sise_tree_writer.specs.SerializeTree.{fits};

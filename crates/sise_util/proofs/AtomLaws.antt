@@ -11,8 +11,8 @@ use lib.Dec.{eqb}
 use borrow.Author.Tests.{eqb-true}
 use Rattle.sise_util.specs.Chars.{isAtomChr, isStringChr, isEscapedChr}
 use Rattle.sise_util.specs.Classes.{Class, space, quote, tab, atomChr, lineEnd, backslash, other, semicolon, left, right, printable, classOf}
-use Rattle.sise_util.specs.Atom.{Inside, empty, chr, escape, Part, single, string, Atom, one, more, outside, inside, escaped, isAtom}
-use Rattle.sise_util.proofs.Ranges.{split}
+use Rattle.sise_util.specs.Atom.{Inside, empty, chr, escape, Part, single, string, Atom, one, more, outside, inside, escaped, isAtom, allAtomChrs, isPlain}
+use Rattle.sise_util.proofs.Ranges.{split, and-first, and-second}
 use Rattle.sise_util.proofs.ClassLaws.{among, stringClasses, atom-class, string-class, quote-class, backslash-class}
 
 -- the test's rules by the classes are these by the character tests
@@ -223,3 +223,14 @@ atom-test (b ∷ l) = (λ h. ⊎-elim (λ e. absurd (none (ap length e))) (λ t.
   where
     none : length (b ∷ l) ≡ 0 → ⊥
     none h = omega arith
+
+-- atom characters alone are an atom
+plain-passes : (l : List ℕ) → allAtomChrs l ≡ true → outside l ≡ true
+unfolding outside
+plain-passes [] h = refl
+plain-passes (b ∷ l) h = atom-step b l (and-first (isAtomChr b) (allAtomChrs l) h) ∙ plain-passes l (and-second (isAtomChr b) (allAtomChrs l) h)
+
+pub plain-atom : (a : List ℕ) → isPlain a ≡ true → isAtom a ≡ true
+unfolding isPlain isAtom
+plain-atom [] h = h
+plain-atom (b ∷ l) h = plain-passes (b ∷ l) h

@@ -83,6 +83,15 @@ unfoldable pub isAtom : List ℕ → Bool
 isAtom [] = false
 isAtom (b ∷ l) = outside (b ∷ l)
 
+-- an atom with no string in it, as most are: atom characters, one or more
+abbrev pub allAtomChrs : List ℕ → Bool
+allAtomChrs [] = true
+allAtomChrs (b ∷ l) = isAtomChr b && allAtomChrs l
+
+unfoldable pub isPlain : List ℕ → Bool
+isPlain [] = false
+isPlain (b ∷ l) = allAtomChrs (b ∷ l)
+
 -- the check of tree calls: the first n bytes of the rest of a text; "a length past that part is 17"
 unfoldable pub isAtomPrefix : List ℕ → ℕ → Bool
 isAtomPrefix rest n = leb n (length rest) && isAtom (take n rest)

@@ -11,3 +11,4 @@ pub use util::check_atom_prefix;
 pub use util::is_atom_byte;
 pub use util::is_atom_chr;
 pub use util::is_atom_string_chr;
+pub use util::is_plain;

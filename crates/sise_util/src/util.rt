@@ -3,7 +3,7 @@ ghost use mathlib.Core.Path.{_≡_};
 ghost use Rattle.sise_util.specs.Chars.{isAtomChr, isStringChr, isEscapedChr};
 ghost use Prim.Native.Nat.{_<_};
 ghost use lib.ListN.{drop};
-ghost use Rattle.sise_util.specs.Atom.{inside, isAtom, isAtomPrefix};
+ghost use Rattle.sise_util.specs.Atom.{inside, isAtom, isPlain, isAtomPrefix};
 ghost use Rattle.sise_util.specs.Parts.{afterString, maskOf};
 
 // Whether `chr` is an atom character outside a string.
@@ -116,6 +116,21 @@ fn string_end(atom: &[u8], from: usize) -> usize
         }
     }
     0
+}
+
+// Whether `atom` is atom characters alone, one or more: an atom with no string in it. So most atoms are spared the longer check, where it stands in a
+// loop over many.
+pub fn is_plain(atom: &[u8]) -> bool
+    ensures { λ r. ⌜ r ≡ isPlain (now (atom .entry)) ⌝ }
+{
+    let mut at = 0;
+    while at < atom.len() {
+        if !is_atom_byte(atom[at]) {
+            return false;
+        }
+        at += 1;
+    }
+    at != 0
 }
 
 // Whether `atom` is an atom: one or more atom characters and strings.

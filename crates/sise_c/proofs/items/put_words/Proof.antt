@@ -8,7 +8,7 @@ use lib.ListN.{length, set, length-set}
 use borrow.Author.Needs.{needs}
 use Rattle.sise_serializer.specs.Bytes.{pasted}
 use Rattle.sise_serializer.proofs.Bytes.{pasted-none}
-use Rattle.sise_layout.proofs.Running.{pasted-cons}
+use Rattle.sise_serializer.proofs.Running.{pasted-cons}
 use Rattle.sise_c.proofs.items.put_words.Statement.{statement}
 use Rattle.sise_c.proofs.items.put_words.Tie as tie
 

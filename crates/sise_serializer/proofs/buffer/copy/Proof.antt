@@ -1,4 +1,4 @@
--- Before each turn the buffer, of the same length, has the first i bytes of src pasted at `at`; each turn leaves one byte less to go.
+-- One byte is stored. Else, before each turn the buffer, of the same length, has the first i bytes of src pasted at `at`; each turn leaves one byte less to go.
 -- Assumes nothing.
 use Prim.Native.Nat.{_-_, _≤_}
 use native.Mathlib.Numerals.{add-one}
@@ -7,7 +7,7 @@ use mathlib.Core.Path.{_≡_, refl, _∙_}
 use lib.ListN.{length, length-set}
 use lib.Seq.{paste, paste-zero, paste-suc}
 use borrow.Author.Needs.{needs}
-use Rattle.sise_serializer.proofs.Bytes.{pasted-paste}
+use Rattle.sise_serializer.proofs.Bytes.{pasted-paste, pasted-single}
 use Rattle.sise_serializer.proofs.buffer.copy.Statement.{statement}
 use Rattle.sise_serializer.proofs.buffer.copy.Tie as tie
 
@@ -17,17 +17,29 @@ Inv-loop buf₀ at src i₀ buf i = (buf ≡ paste buf₀ at src i) × (i ≤ le
 abbrev μ-loop : tie.MeasureT-loop
 μ-loop buf₀ at src i₀ buf i = length src - i
 
-loop-holds : tie.Need-loop-holds Inv-loop μ-loop
-loop-holds c = let a = c .args in (paste-zero (a .buf .now) (a .at) (a .src .now), omega arith, refl)
-
 shared-slice-read-buf : tie.Need-shared-slice-read-buf Inv-loop μ-loop
 shared-slice-read-buf c = search needs
+
+slice-write-buf : tie.Need-slice-write-buf Inv-loop μ-loop
+slice-write-buf c = search needs
+
+same-length : tie.Need-same-length Inv-loop μ-loop
+same-length c = search needs
+
+returns : tie.Need-returns Inv-loop μ-loop
+returns c = let a = c .before .before .args in pasted-single (a .buf .now) (a .at) (a .src .now) (omega (arith, c .before .before .pre, c .before .if1 .taken)) (c .before .if1 .taken)
+
+loop-holds : tie.Need-loop-holds Inv-loop μ-loop
+loop-holds c = let a = c .before .args in (paste-zero (a .buf .now) (a .at) (a .src .now), omega arith, refl)
+
+shared-slice-read-buf-2 : tie.Need-shared-slice-read-buf-2 Inv-loop μ-loop
+shared-slice-read-buf-2 c = search needs
 
 add-buf : tie.Need-add-buf Inv-loop μ-loop
 add-buf c = search needs
 
-slice-write-buf : tie.Need-slice-write-buf Inv-loop μ-loop
-slice-write-buf c = search needs
+slice-write-buf-2 : tie.Need-slice-write-buf-2 Inv-loop μ-loop
+slice-write-buf-2 c = search needs
 
 add-i : tie.Need-add-i Inv-loop μ-loop
 add-i c = search needs
@@ -38,16 +50,16 @@ loop-less c = search needs
 loop-again : tie.Need-loop-again Inv-loop μ-loop
 loop-again c =
     let l = c .before .before .loop in
-    let a = c .before .before .before .args in
+    let a = c .before .before .before .before .args in
     (rw (l .inv .0, add-one, ← paste-suc (a .buf .now) (a .at) (a .src .now) (l .i) 0 (omega arith) (c .before .loop-test .taken)), omega arith, simp length-set (l .inv .2))
 
-same-length : tie.Need-same-length Inv-loop μ-loop
-same-length c = search needs
+same-length-2 : tie.Need-same-length-2 Inv-loop μ-loop
+same-length-2 c = search needs
 
-returns : tie.Need-returns Inv-loop μ-loop
-returns c =
+returns-2 : tie.Need-returns-2 Inv-loop μ-loop
+returns-2 c =
     let l = c .before .loop in
-    let a = c .before .before .args in
+    let a = c .before .before .before .args in
     let all : l .i ≡ length (a .src .now) = omega arith in
     l .inv .0 ∙ rw all (pasted-paste (a .buf .now) (a .at) (a .src .now))
 
@@ -57,12 +69,16 @@ copy-spec =
     (tie.spec
     Inv-loop
     μ-loop
-    loop-holds
     shared-slice-read-buf
-    add-buf
     slice-write-buf
+    same-length
+    returns
+    loop-holds
+    shared-slice-read-buf-2
+    add-buf
+    slice-write-buf-2
     add-i
     loop-less
     loop-again
-    same-length
-    returns)
+    same-length-2
+    returns-2)

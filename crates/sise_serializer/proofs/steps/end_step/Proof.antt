@@ -1,14 +1,12 @@
--- Each return is the definition's answer at the test of the record and at the phase; an open list goes on to `close`.
+-- Each return is the definition's answer, for a sound record, at the phase; an open list goes on to `close`.
 -- Assumes nothing.
-use mathlib.Core.Path.{_≡_, refl, sym, _∙_}
-use mathlib.Core.Bool.{true}
+use mathlib.Core.Path.{refl}
 use borrow.Author.Needs.{needs}
-use borrow.Author.Tests.{not-true, not-false}
 use Rattle.sise_serializer.specs.Steps.{joined}
 use Rattle.sise_serializer.specs.declared.serializer.Serializer.{Serializer}
-use Rattle.sise_serializer.specs.Serializer.{isSound, endIn}
+use Rattle.sise_serializer.specs.Serializer.{endIn}
 use Rattle.sise_serializer.proofs.Sound.{small, writing-lists}
-use Rattle.sise_serializer.proofs.Does.{refused-steps, end-unsound, end-sound}
+use Rattle.sise_serializer.proofs.Does.{refused-steps, end-sound}
 use Rattle.sise_serializer.proofs.steps.end_step.Statement.{statement}
 use Rattle.sise_serializer.proofs.steps.end_step.Tie as tie
 
@@ -16,65 +14,51 @@ use Rattle.sise_serializer.proofs.steps.end_step.Tie as tie
 abbrev whole : tie.Start → Serializer
 whole c = joined (c .args .progress) (c .args .flags .now)
 
--- the function's entry
-abbrev start : tie.After-is-sound → tie.Start
-start c = c .before .before .before .before
-
--- past the test of the record
-is-sound : (c : tie.Else1) → isSound (whole (start (c .before))) ≡ true
-is-sound c = sym (c .before .is-sound .ensures (start (c .before) .args .flags .now)) ∙ not-false _ (c .if1 .left)
-
-is-sound-requires : tie.Need-is-sound-requires
-is-sound-requires c κs = search needs
+enum-told : tie.Need-enum-told
+enum-told c = search needs
 
 refused-requires : tie.Need-refused-requires
 refused-requires c κs = search needs
 
 returns : tie.Need-returns
-returns c =
-    let test = c .before in
-    let st = start (test .before) in
-    let a = st .args in
-    rw (end-unsound _ _ (whole st) (sym (test .before .is-sound .ensures (a .flags .now)) ∙ not-true _ (test .if1 .taken))) (refused-steps (a .progress) (a .flags .now) (a .buf .now) 11 (c .refused .ensures) refl)
-
-enum-told : tie.Need-enum-told
-enum-told c = search needs
-
-refused-requires-2 : tie.Need-refused-requires-2
-refused-requires-2 c κs = search needs
-
-returns-2 : tie.Need-returns-2
 unfolding endIn
-returns-2 c =
-    let told = c .before in
-    let el = told .before .before in
-    let st = start (el .before) in
+returns c =
+    let st = c .before .before .before .before .before .before in
     let a = st .args in
-    rw (end-sound _ _ (whole st) (is-sound el) (told .enum-told .given .1)) (refused-steps (a .progress) (a .flags .now) (a .buf .now) 18 (c .refused2 .ensures) refl)
+    rw (end-sound _ _ (whole st) (st .pre) (c .before .enum-told .given .1)) (refused-steps (a .progress) (a .flags .now) (a .buf .now) 18 (c .refused .ensures) refl)
 
 enum-told-2 : tie.Need-enum-told-2
 enum-told-2 c = search needs
 
 close-requires : tie.Need-close-requires
 close-requires c κs =
-    let told = c .before .before in
-    let el = told .before .before in
-    let st = start (el .before) in
-    (small (st .args .progress) (st .args .flags .now) (is-sound el), writing-lists (whole st) (is-sound el) (told .enum-told2 .given .1))
+    let st = c .before .before .before .before .before .before .before in
+    (small (st .args .progress) (st .args .flags .now) (st .pre), writing-lists (whole st) (st .pre) (c .before .before .enum-told2 .given .1))
 
 same-length : tie.Need-same-length
 same-length c = search needs
 
-returns-3 : tie.Need-returns-3
+returns-2 : tie.Need-returns-2
 unfolding endIn
-returns-3 c =
-    let cl = c .before .before in
-    let told = cl .before .before .before in
-    let el = told .before .before in
-    rw (end-sound _ _ (whole (start (el .before))) (is-sound el) (told .enum-told2 .given .1)) (cl .close .ensures)
+returns-2 c =
+    let st = c .before .before .before .before .before .before .before .before .before .before in
+    rw (end-sound _ _ (whole st) (st .pre) (c .before .before .before .before .before .enum-told2 .given .1)) (c .before .before .close .ensures)
 
 enum-told-3 : tie.Need-enum-told-3
 enum-told-3 c = search needs
+
+refused-requires-2 : tie.Need-refused-requires-2
+refused-requires-2 c κs = search needs
+
+returns-3 : tie.Need-returns-3
+unfolding endIn
+returns-3 c =
+    let st = c .before .before .before .before .before .before in
+    let a = st .args in
+    rw (end-sound _ _ (whole st) (st .pre) (c .before .enum-told3 .given .1)) (refused-steps (a .progress) (a .flags .now) (a .buf .now) 19 (c .refused2 .ensures) refl)
+
+enum-told-4 : tie.Need-enum-told-4
+enum-told-4 c = search needs
 
 refused-requires-3 : tie.Need-refused-requires-3
 refused-requires-3 c κs = search needs
@@ -82,28 +66,11 @@ refused-requires-3 c κs = search needs
 returns-4 : tie.Need-returns-4
 unfolding endIn
 returns-4 c =
-    let told = c .before in
-    let el = told .before .before in
-    let st = start (el .before) in
+    let st = c .before .before .before .before .before .before in
     let a = st .args in
-    rw (end-sound _ _ (whole st) (is-sound el) (told .enum-told3 .given .1)) (refused-steps (a .progress) (a .flags .now) (a .buf .now) 19 (c .refused3 .ensures) refl)
-
-enum-told-4 : tie.Need-enum-told-4
-enum-told-4 c = search needs
-
-refused-requires-4 : tie.Need-refused-requires-4
-refused-requires-4 c κs = search needs
-
-returns-5 : tie.Need-returns-5
-unfolding endIn
-returns-5 c =
-    let told = c .before in
-    let el = told .before .before in
-    let st = start (el .before) in
-    let a = st .args in
-    rw (end-sound _ _ (whole st) (is-sound el) (told .enum-told4 .given .1)) (refused-steps (a .progress) (a .flags .now) (a .buf .now) 19 (c .refused4 .ensures) refl)
+    rw (end-sound _ _ (whole st) (st .pre) (c .before .enum-told4 .given .1)) (refused-steps (a .progress) (a .flags .now) (a .buf .now) 19 (c .refused3 .ensures) refl)
 
 pub end-step-spec : {M : Type 1} → statement M
 end-step-spec =
     tie.close
-    (tie.spec is-sound-requires refused-requires returns enum-told refused-requires-2 returns-2 enum-told-2 close-requires same-length returns-3 enum-told-3 refused-requires-3 returns-4 enum-told-4 refused-requires-4 returns-5)
+    (tie.spec enum-told refused-requires returns enum-told-2 close-requires same-length returns-2 enum-told-3 refused-requires-2 returns-3 enum-told-4 refused-requires-3 returns-4)

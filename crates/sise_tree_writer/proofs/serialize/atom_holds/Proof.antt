@@ -52,30 +52,33 @@ shared-slice-read-wide-2 c = search needs
 wide-requires-2 : tie.Need-wide-requires-2
 wide-requires-2 c κs = search needs
 
+add-is-plain : tie.Need-add-is-plain
+add-is-plain c = omega (arith, c .before .before .before .before .before .before .before .before .pre .inText (c .before .before .before .before .if1 .left), c .before .before .wide .ensures .0, c .wide2 .ensures .0, c .before .before .before .before .before .before .before .before .good .0)
+
+sub-is-plain : tie.Need-sub-is-plain
+sub-is-plain c = search needs
+
+part-is-plain-start : tie.Need-part-is-plain-start
+part-is-plain-start c = search needs
+
+part-is-plain-end : tie.Need-part-is-plain-end
+part-is-plain-end c = omega (arith, c .before .before .before .before .before .before .before .before .pre .inText (c .before .before .before .before .if1 .left), c .before .before .wide .ensures .0, c .wide2 .ensures .0)
+
 is-plain-requires : tie.Need-is-plain-requires
-is-plain-requires c κs =
-    let test = c .before .before .before .before in
-    omega (arith, test .before .before .before .before .pre .inText (test .if1 .left), c .before .before .wide .ensures .0, c .wide2 .ensures .0)
+is-plain-requires c κs = search needs
 
 returns-2 : tie.Need-returns-2
 returns-2 c =
-    let len = c .before .before in
-    let place = len .before .before in
-    let test = place .before .before in
-    let start = test .before .before .before .before in
-    let a = start .args in
-    atom-plain (a .text .now) (a .table .now) (a .i) (test .if1 .left) (place .wide .ensures .0) (len .wide2 .ensures .0)
-    (omega (arith, start .pre .inText (test .if1 .left), place .wide .ensures .0, len .wide2 .ensures .0)) (sym (c .before .is-plain .ensures) ∙ c .if2 .taken)
+    let a = c .before .before .before .before .before .before .before .before .before .before .before .args in
+    atom-plain (a .text .now) (a .table .now) (a .i) (c .before .before .before .before .before .before .before .if1 .left) (c .before .before .before .before .before .wide .ensures .0) (c .before .before .before .wide2 .ensures .0)
+    (omega (arith, c .before .before .before .before .before .before .before .before .before .before .before .pre .inText (c .before .before .before .before .before .before .before .if1 .left), c .before .before .before .before .before .wide .ensures .0, c .before .before .before .wide2 .ensures .0)) (sym (c .before .is-plain .ensures) ∙ c .if2 .taken)
 
 sub-check-atom-prefix : tie.Need-sub-check-atom-prefix
-sub-check-atom-prefix c =
-    let test = c .before .before .before .before .before .before in
-    omega (arith, test .before .before .before .before .pre .inText (test .if1 .left), c .before .before .before .before .wide .ensures .0)
+sub-check-atom-prefix c = omega (arith, c .before .before .before .before .before .before .before .before .before .before .before .pre .inText (c .before .before .before .before .before .before .before .if1 .left), c .before .before .before .before .before .wide .ensures .0)
 
 part-check-atom-prefix-start : tie.Need-part-check-atom-prefix-start
 part-check-atom-prefix-start c =
-    let test = c .before .before .before .before .before .before in
-    let x = test .before .before .before .before .pre .inText (test .if1 .left) in
+    let x = c .before .before .before .before .before .before .before .before .before .before .before .pre .inText (c .before .before .before .before .before .before .before .if1 .left) in
     search needs
 
 part-check-atom-prefix-end : tie.Need-part-check-atom-prefix-end
@@ -86,11 +89,8 @@ check-atom-prefix-requires c κs = search needs
 
 returns-3 : tie.Need-returns-3
 returns-3 c =
-    let len = c .before .before .before .before in
-    let place = len .before .before in
-    let test = place .before .before in
-    let a = test .before .before .before .before .args in
-    atom-checked (a .text .now) (a .table .now) (a .i) (test .if1 .left) (place .wide .ensures .0) (len .wide2 .ensures .0) (c .check-atom-prefix .ensures)
+    let a = c .before .before .before .before .before .before .before .before .before .before .before .before .before .args in
+    atom-checked (a .text .now) (a .table .now) (a .i) (c .before .before .before .before .before .before .before .before .before .if1 .left) (c .before .before .before .before .before .before .before .wide .ensures .0) (c .before .before .before .before .before .wide2 .ensures .0) (c .check-atom-prefix .ensures)
 
 pub atom-holds-spec : {M : Type 1} → statement M
 atom-holds-spec =
@@ -110,6 +110,10 @@ atom-holds-spec =
     mul-wide-4
     shared-slice-read-wide-2
     wide-requires-2
+    add-is-plain
+    sub-is-plain
+    part-is-plain-start
+    part-is-plain-end
     is-plain-requires
     returns-2
     sub-check-atom-prefix

@@ -1,23 +1,23 @@
 // A whole list of the writer's calls, as numbers: four words a call, and one word for each answer.
+use crate::serializer::Put;
+use crate::serializer::Serializer;
+use crate::serializer::Wrote;
+use crate::steps::Flags;
+use crate::steps::Progress;
+use crate::steps::Step;
+use crate::steps::end_step;
+use crate::steps::finish_step;
+use crate::steps::fresh_progress;
+use crate::steps::item_step;
 use sise_parser::atom_bytes;
-use sise_serializer::Flags;
-use sise_serializer::Progress;
-use sise_serializer::Put;
-use sise_serializer::Serializer;
-use sise_serializer::Step;
-use sise_serializer::Wrote;
-use sise_serializer::end_step;
-use sise_serializer::finish_step;
-use sise_serializer::fresh_progress;
-use sise_serializer::item_step;
 ghost use mathlib.Core.Path.{_≡_};
 ghost use mathlib.Core.Bool.{true};
 ghost use Prim.Native.Nat.{_+_, _≤_};
 ghost use lib.ListN.{length};
-ghost use Rattle.sise_serializer.specs.Serializer.{style, answerAs, Does};
+ghost use Rattle.sise_serializer.specs.Serializer.{style, answerAs, isSound, Does};
 ghost use Rattle.sise_serializer.specs.Steps.{joined, Steps};
-ghost use Rattle.sise_layout.specs.Calls.{step, writing};
-ghost use Rattle.sise_layout.specs.Words.{callAt, hasCall, callsOf, answerWord, Runs};
+ghost use Rattle.sise_serializer.specs.Calls.{step, writing};
+ghost use Rattle.sise_serializer.specs.Words.{callAt, hasCall, callsOf, answerWord, Runs};
 
 // The record that the last call left, and how many calls ran.
 pub struct Ran {
@@ -57,7 +57,7 @@ fn run_call(
     indentation: &[u8],
     buf: &mut [u8],
 ) -> Step
-    requires { ⌜ at + 4 ≤ length (now words) ⌝ }
+    requires { ⌜ (at + 4 ≤ length (now words)) × (isSound (joined progress (now flags)) ≡ true) ⌝ }
     ensures { λ r. ⌜ Steps (step (style (now («line_break» .entry)) (now (indentation .entry))) (length (now (buf .entry))) (joined progress (now (flags .entry))) (callAt (now (words .entry)) (now (atoms .entry)) at)) (joined progress (now (flags .entry))) (now (buf .entry)) r (now (flags .exit)) (now (buf .exit)) ⌝ }
 {
     let kind = words[at];

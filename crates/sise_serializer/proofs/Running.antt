@@ -16,16 +16,17 @@ use denote.Enum.Declared.{tagOf}
 use borrow.Author.Tests.{leb-true, leb-false, le-leb, lt-leb, eq-eqb, ne-eqb, eqb-true, eqb-false}
 use Rattle.sise_parser.specs.Reader.{partOf}
 use Rattle.sise_util.proofs.Ranges.{split, and-first, and-second}
 use Rattle.sise_serializer.specs.Bytes.{pasted}
-use Rattle.sise_serializer.specs.Serializer.{Style, answerAs, numberOf, freshSerializer}
+use Rattle.sise_serializer.specs.Serializer.{Style, answerAs, numberOf, freshSerializer, isSound}
 use Rattle.sise_serializer.specs.Steps.{putItem}
 use Rattle.sise_serializer.specs.declared.serializer.Serializer.{Serializer}
 use Rattle.sise_serializer.specs.declared.serializer.Put.{Put}
 use Rattle.sise_serializer.specs.declared.serializer.Put.the-variants.{At, UnsoundRecord, InvalidAtom, NoListToEnd, WritingFinished, WritingNotFinished, TooDeep, NoRoom}
 use Rattle.sise_serializer.proofs.serializer.Put as puts
 use Rattle.sise_serializer.proofs.Bytes.{pasted-none}
-use Rattle.sise_layout.specs.Calls.{Call, putAtomCall, beginListCall, endListCall, finishCall, step, run, writing}
-use Rattle.sise_layout.specs.Words.{callOf, callAt, hasCall, decoded, callsOf, answerWord, Runs}
+use Rattle.sise_serializer.proofs.Kept.{fresh-sound, sound-kept}
+use Rattle.sise_serializer.specs.Calls.{Call, putAtomCall, beginListCall, endListCall, finishCall, step, run, writing}
+use Rattle.sise_serializer.specs.Words.{callOf, callAt, hasCall, decoded, callsOf, answerWord, Runs}
 
 -- ---- the call of a kind
 
@@ -188,6 +189,7 @@ pub record Left (s : Style) (words atoms b₀ a₀ b a : List ℕ) (w : Serializ
   pub place : at ≤ length words
   pub answers-length : length a ≡ length a₀
   pub buffer-length : length b ≡ length b₀
+  pub sound : isSound w ≡ true
 
 pub start : (s : Style) (words atoms b a : List ℕ) (w : Serializer) → w ≡ freshSerializer → Left s words atoms b a b a w 0 0
 start s words atoms b a w e =
@@ -198,6 +200,7 @@ start s words atoms b a w e =
       place = omega arith;
       answers-length = refl;
       buffer-length = refl;
+      sound = ap isSound e ∙ fresh-sound;
     }
 
 module _ {s : Style} {words atoms b₀ a₀ b a : List ℕ} {w : Serializer} {k at : ℕ} (l : Left s words atoms b₀ a₀ b a w k at) where
@@ -246,4 +249,5 @@ module _ {s : Style} {words atoms b₀ a₀ b a : List ℕ} {w : Serializer} {k 
         place = has-room words at (l .place) has;
         answers-length = length-set a k x ∙ e;
         buffer-length = keeps ∙ l .buffer-length;
+        sound = ap isSound left ∙ sound-kept s (length b) w c (l .sound);
       }

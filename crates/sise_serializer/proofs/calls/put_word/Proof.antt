@@ -3,9 +3,9 @@
 use Prim.Native.Nat.{ℕ, _+_, _^_}
 use mathlib.Core.Path.{ap, _∙_}
 use borrow.Author.Needs.{needs}
-use Rattle.sise_layout.proofs.Running.{refusal-word}
-use Rattle.sise_layout.proofs.calls.put_word.Statement.{statement}
-use Rattle.sise_layout.proofs.calls.put_word.Tie as tie
+use Rattle.sise_serializer.proofs.Running.{refusal-word}
+use Rattle.sise_serializer.proofs.calls.put_word.Statement.{statement}
+use Rattle.sise_serializer.proofs.calls.put_word.Tie as tie
 
 enum-known-answer : tie.Need-enum-known-answer
 enum-known-answer c = search needs

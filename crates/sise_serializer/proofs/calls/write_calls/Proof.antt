@@ -5,12 +5,12 @@ use mathlib.Core.Path.{sym, ap, _∙_}
 use mathlib.Core.Logic.{⊎-elim}
 use lib.ListN.{length}
 use borrow.Author.Needs.{needs}
-use Rattle.sise_layout.specs.Words.{answerWord}
+use Rattle.sise_serializer.specs.Words.{answerWord}
 use Rattle.sise_serializer.specs.Serializer.{style}
 use Rattle.sise_serializer.specs.Steps.{joined}
-use Rattle.sise_layout.proofs.Running.{Left, start, full, stopped, has-room, on}
-use Rattle.sise_layout.proofs.calls.write_calls.Statement.{statement}
-use Rattle.sise_layout.proofs.calls.write_calls.Tie as tie
+use Rattle.sise_serializer.proofs.Running.{Left, start, full, stopped, has-room, on}
+use Rattle.sise_serializer.proofs.calls.write_calls.Statement.{statement}
+use Rattle.sise_serializer.proofs.calls.write_calls.Tie as tie
 
 abbrev Inv-loop : tie.InvT-loop
 Inv-loop words atoms line-break indentation buf₀ answers₀ progress₀ flags₀ k₀ at₀ buf answers progress flags k at =
@@ -30,7 +30,9 @@ has-call-requires : tie.Need-has-call-requires Inv-loop μ-loop
 has-call-requires c κs = c .before .loop .inv .place
 
 run-call-requires : tie.Need-run-call-requires Inv-loop μ-loop
-run-call-requires c κs = has-room _ _ (c .before .before .before .before .before .loop .inv .place) (sym (c .before .before .before .has-call .ensures) ∙ c .before .before .if1 .taken)
+run-call-requires c κs =
+    let inv = c .before .before .before .before .before .loop .inv in
+    (has-room _ _ (inv .place) (sym (c .before .before .before .has-call .ensures) ∙ c .before .before .if1 .taken), inv .sound)
 
 put-word-requires : tie.Need-put-word-requires Inv-loop μ-loop
 put-word-requires c κs = search needs

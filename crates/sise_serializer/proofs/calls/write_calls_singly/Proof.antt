@@ -4,11 +4,11 @@ use Prim.Native.Nat.{_-_}
 use mathlib.Core.Path.{sym, ap, _∙_}
 use lib.ListN.{length}
 use borrow.Author.Needs.{needs}
 use Rattle.sise_serializer.specs.Serializer.{style}
-use Rattle.sise_layout.specs.Words.{answerWord}
-use Rattle.sise_layout.proofs.Running.{Left, start, full, stopped, has-room, on}
-use Rattle.sise_layout.proofs.calls.write_calls_singly.Statement.{statement}
-use Rattle.sise_layout.proofs.calls.write_calls_singly.Tie as tie
+use Rattle.sise_serializer.specs.Words.{answerWord}
+use Rattle.sise_serializer.proofs.Running.{Left, start, full, stopped, has-room, on}
+use Rattle.sise_serializer.proofs.calls.write_calls_singly.Statement.{statement}
+use Rattle.sise_serializer.proofs.calls.write_calls_singly.Tie as tie
 
 abbrev Inv-loop : tie.InvT-loop
 Inv-loop words atoms line-break indentation buf₀ answers₀ w₀ count₀ next₀ buf answers w count next =

@@ -1,10 +1,10 @@
 -- Each branch is the method that its kind means, on the bytes that the words name.
 -- Assumes nothing.
-use Rattle.sise_layout.specs.Calls.{step}
-use Rattle.sise_layout.proofs.Running.{call-atom, call-begin, call-end, call-finish}
+use Rattle.sise_serializer.specs.Calls.{step}
+use Rattle.sise_serializer.proofs.Running.{call-atom, call-begin, call-end, call-finish}
 use borrow.Author.Needs.{needs}
-use Rattle.sise_layout.proofs.calls.call_method.Statement.{statement}
-use Rattle.sise_layout.proofs.calls.call_method.Tie as tie
+use Rattle.sise_serializer.proofs.calls.call_method.Statement.{statement}
+use Rattle.sise_serializer.proofs.calls.call_method.Tie as tie
 
 mul-kind : tie.Need-mul-kind
 mul-kind c = search needs

@@ -1,10 +1,10 @@
 -- Where fewer than four words are left there is no call; else the kind tells.
 -- Assumes nothing.
 use mathlib.Core.Path.{sym}
-use Rattle.sise_layout.proofs.Running.{has-short, has-kind}
+use Rattle.sise_serializer.proofs.Running.{has-short, has-kind}
 use borrow.Author.Needs.{needs}
-use Rattle.sise_layout.proofs.calls.has_call.Statement.{statement}
-use Rattle.sise_layout.proofs.calls.has_call.Tie as tie
+use Rattle.sise_serializer.proofs.calls.has_call.Statement.{statement}
+use Rattle.sise_serializer.proofs.calls.has_call.Tie as tie
 
 sub-if1 : tie.Need-sub-if1
 sub-if1 c = search needs

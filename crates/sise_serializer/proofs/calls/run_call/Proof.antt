@@ -2,10 +2,10 @@
 -- Assumes nothing.
 use native.Mathlib.Omega.{arith}
 use borrow.Author.Needs.{needs}
-use Rattle.sise_layout.specs.Calls.{step}
-use Rattle.sise_layout.proofs.Running.{call-item, call-end, call-finish}
-use Rattle.sise_layout.proofs.calls.run_call.Statement.{statement}
-use Rattle.sise_layout.proofs.calls.run_call.Tie as tie
+use Rattle.sise_serializer.specs.Calls.{step}
+use Rattle.sise_serializer.proofs.Running.{call-item, call-end, call-finish}
+use Rattle.sise_serializer.proofs.calls.run_call.Statement.{statement}
+use Rattle.sise_serializer.proofs.calls.run_call.Tie as tie
 
 mul-kind : tie.Need-mul-kind
 mul-kind c = search needs

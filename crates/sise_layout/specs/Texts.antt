@@ -1,0 +1,66 @@
+-- What demand 3 asks of lists of calls and says of their texts (document 01, "serializer.rs: the writer": "Demand 3 speaks of lists of the calls ...").
+-- Assumes nothing.
+use Prim.Native.Nat.{ℕ, _+_, _<_}
+use mathlib.Core.Path.{_≡_}
+use mathlib.Core.Bool.{Bool, true, _&&_, not}
+use mathlib.Core.List.{List, [], _∷_}
+use lib.Dec.{eqb}
+use lib.ListN.{length, take}
+use Rattle.sise_util.specs.Chars.{oneOf}
+use Rattle.sise_serializer.specs.Serializer.{Style, Answer, accepted, refused}
+use Rattle.sise_serializer.specs.Calls.{Call, finishCall, step, Item, atom, listStart, listEnd, Run, writing}
+use Rattle.sise_serializer.specs.declared.serializer.Serializer.{Serializer}
+
+-- "a `finish` is accepted": one of the calls, by its answer
+pub data FinishAccepted : List Call → List Answer → Type 0 where
+  here : {wished : Bool} {o : ℕ} {cs : List Call} {l : List Answer} → FinishAccepted (finishCall wished ∷ cs) (accepted o ∷ l)
+  later : {c : Call} {a : Answer} {cs : List Call} {l : List Answer} → FinishAccepted cs l → FinishAccepted (c ∷ cs) (a ∷ l)
+
+abbrev pub Finishes : Style → List ℕ → List Call → Type 0
+Finishes s buffer cs = FinishAccepted cs (writing s buffer cs .answers)
+
+-- "the buffer's part up to the position that the accepted `finish` returned"
+abbrev pub textOf : Run → List ℕ
+textOf r = take (r .last .position) (r .buffer)
+
+-- Blank is a premise of what is said of reading, and not one of document 01's: a line break of no bytes would join two atoms, and one with other bytes
+-- would be read as items or comments. It asks that line_break is not empty and both strings are of space, tab, CR and LF
+abbrev pub isBlank : ℕ → Bool
+isBlank b = oneOf (32 ∷ 9 ∷ 13 ∷ 10 ∷ []) b
+
+abbrev pub allBlank : List ℕ → Bool
+allBlank [] = true
+allBlank (b ∷ l) = isBlank b && allBlank l
+
+pub record Blank (s : Style) : Type 0 where
+  pub notEmpty : 0 < length (s .lineBreak)
+  pub lineBreak : allBlank (s .lineBreak) ≡ true
+  pub indentation : allBlank (s .indentation) ≡ true
+
+-- "Atom bytes are the sum of the atoms' lengths, lists the number of list starts among the items"
+unfoldable pub atomBytes : List Item → ℕ
+atomBytes [] = 0
+atomBytes (atom a ∷ is) = length a + atomBytes is
+atomBytes (listStart ∷ is) = atomBytes is
+atomBytes (listEnd ∷ is) = atomBytes is
+
+unfoldable pub lists : List Item → ℕ
+lists [] = 0
+lists (atom a ∷ is) = lists is
+lists (listStart ∷ is) = 1 + lists is
+lists (listEnd ∷ is) = lists is
+
+-- a call with a style and a buffer, of room bytes, of its own
+pub record Styled : Type 0 where
+  pub style : Style
+  pub room : ℕ
+  pub call : Call
+
+-- the answers to such calls
+unfoldable pub answersOf : Serializer → List Styled → List Answer
+answersOf w [] = []
+answersOf w (c ∷ cs) = step (c .style) (c .room) w (c .call) .answer ∷ answersOf (step (c .style) (c .room) w (c .call) .serializer) cs
+
+unfoldable pub isNot11 : Answer → Bool
+isNot11 (accepted o) = true
+isNot11 (refused n) = not (eqb n 11)
