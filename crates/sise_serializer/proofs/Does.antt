@@ -92,10 +92,6 @@ step-does d {before = before} {now = now} {x = x} same h e a =
     subst (λ (w : Serializer). Does (d w) w before x now) same
     (record { serializer = e ∙ h .serializer; answer = ap answerAs a ∙ h .answer; buffer = h .buffer })
 
--- an unsound record is handed back, and nothing is written
-pub unsound-does : {d : Written} {w : Serializer} {before : List ℕ} {x : Wrote} → d ≡ refuse 11 w → x .serializer ≡ w → answerAs (x .answer) ≡ refused 11 → Does d w before x before
-unsound-does {w = w} {before = before} h e a = rw h (record { serializer = e; answer = a; buffer = sym (pasted-none before (w .position)) })
-
 -- ---- an item in a list
 
 -- the gap, from the two tests of the code
@@ -218,6 +214,11 @@ module _ (s : Style) (room : ℕ) (w : Serializer) where
 
 -- an item's call: an atom's or a list's
 module _ (s : Style) (room : ℕ) (w : Serializer) (a : List ℕ) (t : ℕ) where
+  pub item-unsound : (isList : Bool) → isSound w ≡ false → putItem s room w a isList t ≡ refuse 11 w
+  unfolding putItem
+  item-unsound true e = begin-unsound s room w t e
+  item-unsound false e = put-unsound s room w a t e
+
   module _ (e : isSound w ≡ true) where
     pub item-no-atom : (isList : Bool) → (isList || isAtom a) ≡ false → putItem s room w a isList t ≡ refuse 17 w
     unfolding putItem

@@ -2,12 +2,12 @@
 use crate::steps::Flags;
 use crate::steps::Progress;
 use crate::steps::Step;
-use crate::steps::end_step;
-use crate::steps::finish_step;
-use crate::steps::item_step;
+use crate::steps::checked_end_step;
+use crate::steps::checked_finish_step;
+use crate::steps::checked_item_step;
 ghost use mathlib.Core.Path.{_≡_};
 ghost use lib.ListN.{length};
-ghost use Rattle.sise_serializer.specs.Serializer.{freshSerializer, style, isSound, refused, answerAs, numberOf, Does, putAtom, beginList, endList, finishWriting};
+ghost use Rattle.sise_serializer.specs.Serializer.{freshSerializer, style, isSound, answerAs, numberOf, Does, putAtom, beginList, endList, finishWriting};
 ghost use Rattle.sise_serializer.specs.Steps.{joined};
 
 // Where the writer is: before the first item, inside the outermost list, after the last item, or after an accepted finish.
@@ -83,17 +83,6 @@ fn pack(step: Step, flags: Flags) -> Wrote
     }
 }
 
-// The refusal of an unsound record, which is handed back as it is.
-fn unsound(serializer: Serializer) -> Wrote
-    ensures { λ r. ⌜ r .serializer ≡ serializer ⌝ }
-    ensures { λ r. ⌜ answerAs (r .answer) ≡ refused 11 ⌝ }
-{
-    Wrote {
-        serializer,
-        answer: Put::UnsoundRecord,
-    }
-}
-
 impl Serializer {
     // A writer before the first item, at the start of its buffer.
     pub fn new() -> Serializer
@@ -148,12 +137,9 @@ impl Serializer {
     ) -> Wrote
         ensures { λ r. ⌜ Does (putAtom (style (now («line_break» .entry)) (now (indentation .entry))) (length (now (buf .entry))) self (now (atom .entry)) «break_line_at») self (now (buf .entry)) r (now (buf .exit)) ⌝ }
     {
-        if !self.is_sound() {
-            return unsound(self);
-        }
         let mut flags = self.line_broken;
         let progress = self.progress();
-        let step = item_step(
+        let step = checked_item_step(
             progress,
             &mut flags,
             line_break,
@@ -176,12 +162,9 @@ impl Serializer {
     ) -> Wrote
         ensures { λ r. ⌜ Does (beginList (style (now («line_break» .entry)) (now (indentation .entry))) (length (now (buf .entry))) self «break_line_at») self (now (buf .entry)) r (now (buf .exit)) ⌝ }
     {
-        if !self.is_sound() {
-            return unsound(self);
-        }
         let mut flags = self.line_broken;
         let progress = self.progress();
-        let step = item_step(
+        let step = checked_item_step(
             progress,
             &mut flags,
             line_break,
@@ -198,12 +181,9 @@ impl Serializer {
     pub fn end_list(self, line_break: &[u8], indentation: &[u8], buf: &mut [u8]) -> Wrote
         ensures { λ r. ⌜ Does (endList (style (now («line_break» .entry)) (now (indentation .entry))) (length (now (buf .entry))) self) self (now (buf .entry)) r (now (buf .exit)) ⌝ }
     {
-        if !self.is_sound() {
-            return unsound(self);
-        }
         let mut flags = self.line_broken;
         let progress = self.progress();
-        let step = end_step(progress, &mut flags, line_break, indentation, buf);
+        let step = checked_end_step(progress, &mut flags, line_break, indentation, buf);
         pack(step, flags)
     }
 
@@ -217,12 +197,9 @@ impl Serializer {
     ) -> Wrote
         ensures { λ r. ⌜ Does (finishWriting (style (now («line_break» .entry)) (now (indentation .entry))) (length (now (buf .entry))) self «insert_line_break») self (now (buf .entry)) r (now (buf .exit)) ⌝ }
     {
-        if !self.is_sound() {
-            return unsound(self);
-        }
         let mut flags = self.line_broken;
         let progress = self.progress();
-        let step = finish_step(
+        let step = checked_finish_step(
             progress,
             &mut flags,
             line_break,

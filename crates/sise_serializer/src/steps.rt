@@ -569,3 +569,70 @@ pub(crate) fn finish_step(
         Phase::Done => return refused(progress, Put::WritingFinished),
     }
 }
+
+// ---- the same for any record: an unsound one is refused
+
+pub(crate) fn checked_item_step(
+    progress: Progress,
+    flags: &mut Flags,
+    line_break: &[u8],
+    indentation: &[u8],
+    buf: &mut [u8],
+    atom: &[u8],
+    is_list: bool,
+    break_line_at: u64,
+) -> Step
+    ensures { λ r. ⌜ Steps (putItem (style (now («line_break» .entry)) (now (indentation .entry))) (length (now (buf .entry))) (joined progress (now (flags .entry))) (now (atom .entry)) «is_list» «break_line_at») (joined progress (now (flags .entry))) (now (buf .entry)) r (now (flags .exit)) (now (buf .exit)) ⌝ }
+{
+    if !progress.is_sound() {
+        return refused(progress, Put::UnsoundRecord);
+    }
+    item_step(
+        progress,
+        flags,
+        line_break,
+        indentation,
+        buf,
+        atom,
+        is_list,
+        break_line_at,
+    )
+}
+
+pub(crate) fn checked_end_step(
+    progress: Progress,
+    flags: &mut Flags,
+    line_break: &[u8],
+    indentation: &[u8],
+    buf: &mut [u8],
+) -> Step
+    ensures { λ r. ⌜ Steps (endList (style (now («line_break» .entry)) (now (indentation .entry))) (length (now (buf .entry))) (joined progress (now (flags .entry)))) (joined progress (now (flags .entry))) (now (buf .entry)) r (now (flags .exit)) (now (buf .exit)) ⌝ }
+{
+    if !progress.is_sound() {
+        return refused(progress, Put::UnsoundRecord);
+    }
+    end_step(progress, flags, line_break, indentation, buf)
+}
+
+pub(crate) fn checked_finish_step(
+    progress: Progress,
+    flags: &mut Flags,
+    line_break: &[u8],
+    indentation: &[u8],
+    buf: &mut [u8],
+    insert_line_break: bool,
+) -> Step
+    ensures { λ r. ⌜ Steps (finishWriting (style (now («line_break» .entry)) (now (indentation .entry))) (length (now (buf .entry))) (joined progress (now (flags .entry))) «insert_line_break») (joined progress (now (flags .entry))) (now (buf .entry)) r (now (flags .exit)) (now (buf .exit)) ⌝ }
+{
+    if !progress.is_sound() {
+        return refused(progress, Put::UnsoundRecord);
+    }
+    finish_step(
+        progress,
+        flags,
+        line_break,
+        indentation,
+        buf,
+        insert_line_break,
+    )
+}

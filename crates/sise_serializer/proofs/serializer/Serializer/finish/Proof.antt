@@ -1,31 +1,18 @@
--- An unsound record is refused. Else the step does it, and the flags that it leaves are packed with what it hands back.
+-- The step does it; the flags that it leaves are packed with what it hands back.
 -- Assumes nothing.
-use mathlib.Core.Path.{sym, ap, _∙_}
 use lib.ListN.{length}
 use borrow.Author.Needs.{needs}
-use borrow.Author.Tests.{not-true, not-false}
-use Rattle.sise_serializer.specs.Serializer.{style, isSound, finishWriting}
+use Rattle.sise_serializer.specs.Serializer.{style, finishWriting}
 use Rattle.sise_serializer.specs.declared.serializer.Serializer.{Serializer}
-use Rattle.sise_serializer.proofs.Does.{step-does, unsound-does, finish-unsound}
+use Rattle.sise_serializer.proofs.Does.{step-does}
 use Rattle.sise_serializer.proofs.serializer.Serializer.finish.Statement.{statement}
 use Rattle.sise_serializer.proofs.serializer.Serializer.finish.Tie as tie
-
-is-sound-requires : tie.Need-is-sound-requires
-is-sound-requires c κs = search needs
-
-unsound-requires : tie.Need-unsound-requires
-unsound-requires c κs = search needs
-
-returns : tie.Need-returns
-returns c =
-    let a = c .before .before .before .before .before .before .args in
-    unsound-does (finish-unsound _ _ (a .self) _ (sym (c .before .before .is-sound .ensures) ∙ not-true _ (c .before .if1 .taken))) (c .unsound .ensures .0) (c .unsound .ensures .1)
 
 progress-requires : tie.Need-progress-requires
 progress-requires c κs = search needs
 
-finish-step-requires : tie.Need-finish-step-requires
-finish-step-requires c κs = ap isSound (c .before .before .progress .ensures) ∙ sym (c .before .before .before .before .before .is-sound .ensures) ∙ not-false _ (c .before .before .before .before .if1 .left)
+checked-finish-step-requires : tie.Need-checked-finish-step-requires
+checked-finish-step-requires c κs = search needs
 
 pack-requires : tie.Need-pack-requires
 pack-requires c κs = search needs
@@ -33,11 +20,13 @@ pack-requires c κs = search needs
 same-length : tie.Need-same-length
 same-length c = search needs
 
-returns-2 : tie.Need-returns-2
-returns-2 c =
-    let a = c .before .before .before .before .before .before .before .before .before .before .before .before .before .args in
-    step-does (λ (w : Serializer). finishWriting (style (a .line-break .now) (a .indentation .now)) (length (a .buf .now)) w (a .insert-line-break)) (c .before .before .before .before .before .before .progress .ensures) (c .before .before .before .finish-step .ensures) (c .pack .ensures .0) (c .pack .ensures .1)
+returns : tie.Need-returns
+returns c =
+    let st = c .before .before .before in
+    let pr = st .before .before .before in
+    let a = pr .before .before .before .before .before .args in
+    step-does (λ (w : Serializer). finishWriting (style (a .line-break .now) (a .indentation .now)) (length (a .buf .now)) w (a .insert-line-break)) (pr .progress .ensures) (st .checked-finish-step .ensures) (c .pack .ensures .0) (c .pack .ensures .1)
 
 pub finish-spec : {M : Type 1} → statement M
 finish-spec =
-    tie.close (tie.spec is-sound-requires unsound-requires returns progress-requires finish-step-requires pack-requires same-length returns-2)
+    tie.close (tie.spec progress-requires checked-finish-step-requires pack-requires same-length returns)
