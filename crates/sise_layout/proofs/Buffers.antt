@@ -56,7 +56,7 @@ module _ (s : Style) (n : ℕ) where
   piece-size buffer e at g t q = pasted-length buffer at (g ++ t) (rw (length-append, e) (omega arith)) ∙ e
 
   stored : (buffer : List ℕ) → length buffer ≡ n → (w : Serializer) → Aligned w → w .position ≤ n → (c : Call) (r : Written) → Outcome s n w c r → Stored n buffer w r
-  stored buffer e w i h c r (same k u) = record {
+  stored buffer e w i h c r (same k) = record {
     aligned = i;
     within = h;
     size = ap length kept ∙ e;

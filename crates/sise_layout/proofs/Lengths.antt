@@ -34,7 +34,7 @@ module _ (s : Style) (room : ℕ) where
 
   count-step : (cs : List Call) → Counts cs → (w : Serializer) → Aligned w → (c : Call) (r : Written) → Outcome s room w c r
       → Counted s w (itemOf c (r .answer) ++ writes s room (r .serializer) cs .items) (r .bytes ++ writes s room (r .serializer) cs .text) (writes s room (r .serializer) cs .last)
-  count-step cs h w i c r (same n u) = h w i
+  count-step cs h w i c r (same n) = h w i
   count-step cs h w i c r (adds k p a e q) =
       rw (e, length-append, length-append) (omega (arith, a .paid, h (p .after) (a .aligned), item-counted k (itemsOf (writes s room (p .after) cs .items))))
   count-step cs h w i c r (ends wished f e q) =
@@ -46,7 +46,7 @@ module _ (s : Style) (room : ℕ) where
   counts (c ∷ cs) w i = count-step cs (counts cs) w i c (step s room w c) (outcome s room w i c)
 
   aligned-step : (w : Serializer) → Aligned w → (c : Call) (r : Written) → Outcome s room w c r → Aligned (r .serializer)
-  aligned-step w i c r (same n u) = i
+  aligned-step w i c r (same n) = i
   aligned-step w i c r (adds k p a e q) = a .aligned
   aligned-step w i c r (ends wished f e q) = last-aligned s w wished i f
 

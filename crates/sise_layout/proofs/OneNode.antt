@@ -52,7 +52,7 @@ module _ (s : Style) (room : ℕ) where
   spelled-step : (cs : List Call) → Spelled cs → (w : Serializer) → Aligned w → (c : Call) (r : Written) → Outcome s room w c r
       → writes s room (r .serializer) cs .last .phase ≡ Done → Spells (w .phase) (w .lists) (itemsOf (itemOf c (r .answer) ++ writes s room (r .serializer) cs .items))
   unfolding last
-  spelled-step cs h w i c r (same n u) d = h w i d
+  spelled-step cs h w i c r (same n) d = h w i d
   spelled-step cs h w i c r (adds k p a e q) d = rw e (spell-step _ (a .turns) (h (p .after) (a .aligned) d))
   spelled-step cs h w i c r (ends wished f e q) d = rw (e, f) (rw (last-done s w wished) at (h (last s w wished .after) (last-aligned s w wished i f) d))
 

@@ -65,7 +65,7 @@ module _ (s : Style) (b : Blank s) (room : ℕ) where
 
   stops-step : (cs : List Call) → Stops cs → (w : Serializer) → Aligned w → settled w ≡ true → (c : Call) (r : Written) → Outcome s room w c r
       → stops (r .bytes ++ writes s room (r .serializer) cs .text) ≡ true
-  stops-step cs h w i g c r (same n u) = h w i g
+  stops-step cs h w i g c r (same n) = h w i g
   stops-step cs h w i g c r (adds k p a e q) = a .apart b g (writes s room (p .after) cs .text)
   stops-step cs h w i g c r (ends wished f e q) =
       last-stops s w wished (writes s room (last s w wished .after) cs .text) b
@@ -82,7 +82,7 @@ module _ (s : Style) (b : Blank s) (room : ℕ) where
 
   silent-step : (cs : List Call) → Silences cs → (w : Serializer) → Aligned w → isOver (w .phase) ≡ true → (c : Call) (r : Written) → Outcome s room w c r
       → Silent (itemOf c (r .answer) ++ writes s room (r .serializer) cs .items) (r .bytes ++ writes s room (r .serializer) cs .text)
-  silent-step cs h w i o c r (same n u) = h w i o
+  silent-step cs h w i o c r (same n) = h w i o
   silent-step cs h w i o c r (adds k p a e q) = absurd (false≢true (sym (not-going (w .phase) (a .going)) ∙ o))
   silent-step cs h w i o c r (ends wished f e q) = record {
     noItem = rw e (later .noItem);
@@ -148,7 +148,7 @@ module _ (s : Style) (b : Blank s) (room : ℕ) where
   read-step : (cs : List Call) → ReadBack cs → (w : Serializer) (pre : List ℕ) → Aligned w → length pre ≡ w .position → isOver (w .phase) ≡ false
       → (c : Call) (r : Written) → Outcome s room w c r → writes s room (r .serializer) cs .last .phase ≡ Done
       → Follows (pre ++ (r .bytes ++ writes s room (r .serializer) cs .text)) (beside w) (itemOf c (r .answer) ++ writes s room (r .serializer) cs .items)
-  read-step cs h w pre i l o c r (same n u) d = h w pre i l d
+  read-step cs h w pre i l o c r (same n) d = h w pre i l d
   read-step cs h w pre i l o c r (adds k p a e q) d = rw e (read-item cs h w pre i l k p a d)
   read-step cs h w pre i l o c r (ends wished f e q) d = absurd (false≢true (sym o ∙ rw f))
 
