@@ -11,13 +11,13 @@ use Rattle.sise_serializer.specs.Serializer.{Style, freshSerializer}
 use Rattle.sise_serializer.specs.declared.serializer.Phase.the-variants.{Done}
 use Rattle.sise_serializer.specs.declared.serializer.Serializer.{Serializer}
 use Rattle.sise_serializer.specs.Calls.{Call, Item, atom, listStart, listEnd, Placed, itemsOf, writing}
+use Rattle.sise_layout.specs.Rules.{writes}
 use Rattle.sise_layout.specs.Texts.{Finishes, textOf, Blank}
 use Rattle.sise_layout.specs.Reading.{asRead, Stands, All, none, more, Gives, itemRead, itemsRead}
 use Rattle.sise_layout.specs.Claim.{Spells, Holds}
 use Rattle.sise_serializer.specs.Examples.{house}
 use Rattle.sise_layout.specs.Examples.{used, worked, workedItems, Shown, shown, at-4, at-5, at-4-finishes, at-5-finishes, house-blank}
 use Rattle.sise_layout.proofs.Following.{follows-gives}
-use Rattle.sise_layout.proofs.Written.{writes}
 use Rattle.sise_layout.proofs.ReadBack.{follows}
 use Rattle.sise_layout.proofs.Lengths.{its-length}
 use Rattle.sise_layout.proofs.OneNode.{one-node}

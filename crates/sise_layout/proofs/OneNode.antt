@@ -8,10 +8,11 @@ use Rattle.sise_serializer.specs.declared.serializer.Phase.{Phase}
 use Rattle.sise_serializer.specs.declared.serializer.Phase.the-variants.{Beginning, Writing, Finished, Done}
 use Rattle.sise_serializer.specs.declared.serializer.Serializer.{Serializer}
 use Rattle.sise_serializer.specs.Calls.{Call, Item, listStart, listEnd, itemsOf, itemOf, step}
+use Rattle.sise_layout.specs.Rules.{writes}
 use Rattle.sise_layout.specs.Nodes.{Node, Nodes, leaf, list, none, more}
 use Rattle.sise_layout.proofs.Pieces.{Aligned, Turns, only, begins, holds, deepens, shallower, ending}
 use Rattle.sise_layout.proofs.Outcomes.{Outcome, same, adds, ends, outcome}
-use Rattle.sise_layout.proofs.Written.{writes, fresh-aligned, last-aligned, last-done}
+use Rattle.sise_layout.proofs.Written.{fresh-aligned, last-aligned, last-done}
 
 -- the rest of a text in which n lists are open: each list's nodes and its end, the innermost first
 data Closes : ℕ → List Item → Type 0 where
@@ -53,8 +54,8 @@ module _ (s : Style) (room : ℕ) where
       → writes s room (r .serializer) cs .last .phase ≡ Done → Spells (w .phase) (w .lists) (itemsOf (itemOf c (r .answer) ++ writes s room (r .serializer) cs .items))
   unfolding last
   spelled-step cs h w i c r (same n) d = h w i d
-  spelled-step cs h w i c r (adds k p a e q) d = rw e (spell-step _ (a .turns) (h (p .after) (a .aligned) d))
-  spelled-step cs h w i c r (ends wished f e q) d = rw (e, f) (rw (last-done s w wished) at (h (last s w wished .after) (last-aligned s w wished i f) d))
+  spelled-step cs h w i c r (adds k p a e) d = rw e (spell-step _ (a .turns) (h (p .after) (a .aligned) d))
+  spelled-step cs h w i c r (ends wished f e) d = rw (e, f) (rw (last-done s w wished) at (h (last s w wished .after) (last-aligned s w wished i f) d))
 
   spelled : (cs : List Call) → Spelled cs
   unfolding writes

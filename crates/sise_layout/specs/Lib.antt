@@ -1,4 +1,5 @@
 pub mod Texts
+pub mod Rules
 pub mod Reading
 pub mod Nodes
 pub mod Claim
