@@ -2,13 +2,14 @@
 -- Assumes nothing.
 use Prim.Native.Nat.{ℕ, _+_, _<_}
 use mathlib.Core.Path.{_≡_}
-use mathlib.Core.Bool.{Bool, true, _&&_, not}
+use mathlib.Core.Bool.{Bool, true, _&&_, not, cond}
 use mathlib.Core.List.{List, [], _∷_}
 use lib.Dec.{eqb}
 use lib.ListN.{length, take}
 use Rattle.sise_util.specs.Chars.{oneOf}
+use Rattle.sise_util.specs.Atom.{isAtom}
 use Rattle.sise_serializer.specs.Serializer.{Style, Answer, accepted, refused}
-use Rattle.sise_serializer.specs.Calls.{Call, finishCall, step, Item, atom, listStart, listEnd, Run, writing}
+use Rattle.sise_serializer.specs.Calls.{Call, putAtomCall, beginListCall, endListCall, finishCall, step, Item, atom, listStart, listEnd, Run, writing}
 use Rattle.sise_serializer.specs.declared.serializer.Serializer.{Serializer}
 
 -- "a `finish` is accepted": one of the calls, by its answer
@@ -23,8 +24,14 @@ Finishes s buffer cs = FinishAccepted cs (writing s buffer cs .answers)
 abbrev pub textOf : Run → List ℕ
 textOf r = take (r .last .position) (r .buffer)
 
--- Blank is a premise of what is said of reading, and not one of document 01's: a line break of no bytes would join two atoms, and one with other bytes
--- would be read as items or comments. It asks that line_break is not empty and both strings are of space, tab, CR and LF
+-- the refusal of a call that comes after an accepted finish: "19: any call after an accepted finish", and 17 before it where put_atom gets no atom
+unfoldable pub lateNumber : Call → ℕ
+lateNumber (putAtomCall a t) = cond (isAtom a) 19 17
+lateNumber (beginListCall t) = 19
+lateNumber endListCall = 19
+lateNumber (finishCall wished) = 19
+
+-- demand 3: "its own style, with line_break not empty and both style strings made only of space, tab, CR and LF"
 abbrev pub isBlank : ℕ → Bool
 isBlank b = oneOf (32 ∷ 9 ∷ 13 ∷ 10 ∷ []) b
 
