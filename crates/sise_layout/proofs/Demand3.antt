@@ -53,7 +53,7 @@ module _ (s : Style) (buffer : List ℕ) (cs : List Call) (finished : Finishes s
   n = length buffer
 
   done : writes s n freshSerializer cs .last .phase ≡ Done
-  done = ap (λ (w : Serializer). w .phase) (sym (same-last s buffer cs)) ∙ ends-done s cs buffer freshSerializer finished
+  done = ap (λ (w : Serializer). w .phase) (sym (same-last s buffer cs)) ∙ ends-done s buffer cs finished
 
   -- with any style
   pub any-style : Spells s buffer cs (itemsOf (writing s buffer cs .items))

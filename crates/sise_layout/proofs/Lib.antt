@@ -10,7 +10,6 @@ pub mod Lengths
 pub mod OneNode
 pub mod Buffers
 pub mod Ended
-pub mod Late
 pub mod Demand3
 pub mod Sound
 pub mod Refused
