@@ -56,7 +56,7 @@ module _ (s : Style) (buffer : List ℕ) (cs : List Call) (finished : Finishes s
   done = ap (λ (w : Serializer). w .phase) (sym (same-last s buffer cs)) ∙ ends-done s buffer cs finished
 
   -- with any style
-  pub any-style : Spells s buffer cs (itemsOf (writing s buffer cs .items))
+  pub any-style : Spells s (textOf (writing s buffer cs)) (writing s buffer cs .last) (itemsOf (writing s buffer cs .items))
   any-style = record {
     node = rw (same-items s buffer cs) (one-node s n cs done);
     size = rw (same-text s buffer cs, same-items s buffer cs, same-last s buffer cs) (its-length s n cs done ∙ omega arith);
