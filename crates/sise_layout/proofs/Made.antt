@@ -2,21 +2,20 @@
 -- returned; the statement is `made-alike`.
 -- Assumes nothing.
 use Prim.Native.Nat.{ℕ}
-use mathlib.Core.Path.{_≡_, refl, sym, ap, ap₂, subst, _∙_}
+use mathlib.Core.Path.{_≡_, refl, sym, ap, _∙_}
 use mathlib.Core.Bool.{true}
-use mathlib.Core.List.{List, [], _∷_, _++_}
+use mathlib.Core.List.{List}
 use lib.ListN.{length, take}
-use Rattle.sise_serializer.specs.Serializer.{Style, Answer, answerAs, Does, isSound, freshSerializer}
+use Rattle.sise_serializer.specs.Serializer.{Style, Answer, isSound, freshSerializer}
 use Rattle.sise_serializer.specs.declared.serializer.Phase.the-variants.{Done}
 use Rattle.sise_serializer.specs.declared.serializer.Serializer.{Serializer}
-use Rattle.sise_serializer.specs.declared.serializer.Wrote.{Wrote}
-use Rattle.sise_serializer.specs.Calls.{isAccepted, Call, finishCall, Item, Placed, itemsOf, itemOf, step, Run, run, writing}
+use Rattle.sise_serializer.specs.Calls.{isAccepted, Call, finishCall, Item, itemsOf, Run, run, writing}
 use Rattle.sise_serializer.proofs.Kept.{fresh-sound, sound-kept}
-use Rattle.sise_layout.specs.Texts.{FinishAccepted, here, later, Finishes, textOf, Blank}
+use Rattle.sise_layout.specs.Texts.{FinishAccepted, here, later, Blank}
 use Rattle.sise_layout.specs.Made as made
 use Rattle.sise_layout.specs.Made.{Made, none, more, MadeWriting, itemsBy}
 use Rattle.sise_layout.specs.Rules.{writes}
-use Rattle.sise_layout.specs.Claim.{HasItems, Holds}
+use Rattle.sise_layout.specs.Claim.{HasItems}
 use Rattle.sise_layout.proofs.Ended.{finished-done, all-late}
 use Rattle.sise_layout.proofs.Buffers.{tied}
 use Rattle.sise_layout.proofs.Demand3.{one-writing}

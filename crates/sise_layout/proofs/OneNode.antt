@@ -1,6 +1,6 @@
 -- The items of a finished writing spell one node: while n lists are open, what follows closes them one after the other.
 -- Assumes nothing.
-use Prim.Native.Nat.{ℕ, suc, _+_, _-_}
+use Prim.Native.Nat.{ℕ, suc}
 use mathlib.Core.Path.{_≡_, refl, subst}
 use mathlib.Core.List.{List, [], _∷_, _++_, append-assoc}
 use Rattle.sise_serializer.specs.Serializer.{Style, Written, last, freshSerializer}
