@@ -5,7 +5,7 @@ use Prim.Native.Nat.{ℕ}
 use mathlib.Core.Path.{_≡_, refl, ap, _∙_}
 use mathlib.Core.Bool.{Bool, true, false, cond, false≢true}
 use mathlib.Core.List.{List, [], _∷_, _++_, map}
-use lib.ListN.{length}
+use lib.ListN.{length, take}
 use Rattle.sise_util.specs.Atom.{isAtom}
 use Rattle.sise_util.proofs.Ranges.{split}
 use Rattle.sise_serializer.specs.Bytes.{pasted}
@@ -17,7 +17,7 @@ use Rattle.sise_serializer.specs.Calls.{isAccepted, Call, putAtomCall, beginLis
 use Rattle.sise_serializer.proofs.Bytes.{pasted-none}
 use Rattle.sise_serializer.proofs.Kept.{fresh-sound, sound-kept}
 use Rattle.sise_serializer.proofs.Verdicts.{textEnded, Verdict, refuses, puts, verdict}
-use Rattle.sise_layout.specs.Texts.{FinishAccepted, here, later, Finishes, lateNumber, EndsAt}
+use Rattle.sise_layout.specs.Texts.{FinishAccepted, here, later, Finishes, textOf, lateNumber, EndsAt}
 use Rattle.sise_layout.proofs.Written.{last-done}
 
 -- an accepted finish
@@ -105,6 +105,10 @@ module _ (s : Style) where
   module _ (buffer : List ℕ) (cs : List Call) (f : Finishes s buffer cs) where
     pub ends-at : EndsAt s buffer freshSerializer cs
     ends-at = at-end f buffer freshSerializer fresh-sound refl
+
+    -- the text is the buffer's part up to the position that this finish returned
+    pub ends-text : textOf (writing s buffer cs) ≡ take (ends-at .finish .serializer .position) (writing s buffer cs .buffer)
+    ends-text = ap (λ (w : Serializer). take (w .position) (writing s buffer cs .buffer)) (ends-at .last)
 
     pub ends-done : writing s buffer cs .last .phase ≡ Done
     ends-done =

@@ -21,7 +21,7 @@ use Rattle.sise_layout.proofs.Buffers.{tied}
 use Rattle.sise_layout.proofs.Demand3.{one-writing}
 
 module _ {s : Style} where
-  -- record, buffer and answers
+  -- record, buffer, answers and items
   pub made-run : {w v : Serializer} {b b′ : List ℕ} {cs : List Call} {l : List Answer} → Made s w b cs v b′ l
       → run s b w cs ≡ record { last = v; buffer = b′; answers = l; items = itemsBy cs l }
   unfolding run itemsBy

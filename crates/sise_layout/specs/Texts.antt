@@ -25,7 +25,7 @@ Finishes s buffer cs = FinishAccepted cs (writing s buffer cs .answers)
 abbrev pub textOf : Run → List ℕ
 textOf r = take (r .last .position) (r .buffer)
 
--- the refusal of a call that comes after an accepted finish: "19: any call after an accepted finish", and 17 before it where put_atom gets no atom
+-- the refusal of a call after an accepted finish: 19, "added: any call after an accepted finish"; for put_atom 17 comes before it
 unfoldable pub lateNumber : Call → ℕ
 lateNumber (putAtomCall a t) = cond (isAtom a) 19 17
 lateNumber (beginListCall t) = 19
