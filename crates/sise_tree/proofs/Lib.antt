@@ -15,3 +15,5 @@ pub mod ParseLaws
 pub mod FillingLoop
 pub mod FillingPlain
 pub mod ParseCases
+pub mod Lossless
+pub mod TextLimit
