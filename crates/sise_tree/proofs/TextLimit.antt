@@ -5,7 +5,7 @@ use mathlib.Core.Path.{_≡_, sym, ap, _∙_}
 use mathlib.Core.Bool.{true, false}
 use mathlib.Core.List.{List, [], _∷_}
 use lib.Dec.{ltb}
-use lib.ListN.{length, replicate}
+use lib.ListN.{length, replicate, length-replicate}
 use Rattle.sise_util.specs.Chars.{within}
 use Rattle.sise_util.specs.Classes.{classOf}
 use Rattle.sise_parser.specs.Lexer.{between, plain}
@@ -18,7 +18,7 @@ use Rattle.sise_parser.proofs.ReaderLaws.{fresh-sound}
 use Rattle.sise_tree.specs.Tree.{atom, size, table}
 use Rattle.sise_tree.specs.Decision.{decide}
 use Rattle.sise_tree.specs.Answers.{answered, refusedWith}
-use Rattle.sise_tree.specs.ParseTree.{longest, top, attach, turn, got, readStage, readAnswer, readFrom, readNode, filledWith, parsed, parseTree}
+use Rattle.sise_tree.specs.ParseTree.{longest, top, attach, turn, got, readStage, readAnswer, readFrom, readNode, filledWith, Parses, parsed, parseTree}
 use Rattle.sise_tree.specs.ParseText.{parses, textRead, parseText}
 use Rattle.sise_tree.specs.IndexPath.{indexedIn, indexPath}
 
@@ -61,6 +61,10 @@ module _ (text : List ℕ) (over : length text ≡ 16777217) where
   pub path-over : (words path : List ℕ) → indexPath words text path ≡ refusedWith 13
   unfolding indexPath
   path-over words path = rw is-over
+
+-- row 13's example, 16,777,217 spaces
+pub row-13 : (n : ℕ) → n ≡ 16777217 → (r : Reader) (words : List ℕ) → parseTree (replicate n 32) r words .answer ≡ refusedWith 13
+row-13 n e r words = ap (λ (p : Parses). p .answer) (parse-over (replicate n 32) (length-replicate n 32 ∙ e) r words)
 
 -- `a`, a space, and any bytes behind them, as many as the limit allows: a node is read
 module _ (rest : List ℕ) where
