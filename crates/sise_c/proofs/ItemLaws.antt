@@ -43,7 +43,7 @@ ending-all : (text : List ℕ) {r : Reader} → r ≡ freshReader → endingFrom
 unfolding endingOf
 ending-all text {r} e = ap (λ (k : ℕ). endingFrom k text r) (none-read text) ∙ ap (endingFrom (suc (length text)) text) e
 
--- what a call was told to answer
+-- what a call answered
 module _ (text : List ℕ) (r : Reader) {m : ReaderNext} (e : nextAs m ≡ nextItem text r) where
   pub gave-item : {i : ParsedItem} → m .answer ≡ Item i → nextItem text r ≡ next (m .reader) (item i)
   gave-item d = sym e ∙ ap (λ (a : Answer). next (m .reader) (answerAs a)) d

@@ -1,4 +1,4 @@
--- What a call tells a program in another language: its result, and two words that the program lent (document 01, "Refusals").
+-- What a call reports to a program in another language: its result, and two words that the program lent (document 01, "Refusals").
 -- Assumes nothing.
 use Prim.Native.Nat.{ℕ}
 use mathlib.Core.Path.{_≡_}
@@ -16,12 +16,12 @@ abbrev pub valuesOf : Answer → List ℕ
 valuesOf (answered n) = n ∷ 0 ∷ []
 valuesOf (refused e) = e .place ∷ e .code ∷ []
 
--- the result r is 0 or the refusal's number, and the two words are `now`
-pub record Tells (a : Answer) (r : ℕ) (now : List ℕ) : Type 0 where
+-- the number returned, r, and the two lent words, which end as `now`, are those of the answer a
+pub record Reports (a : Answer) (r : ℕ) (now : List ℕ) : Type 0 where
   pub result : r ≡ numberOf a
   pub values : now ≡ valuesOf a
 
--- where a writing answers with an offset, its size n is told
+-- where a writing answers with an offset, its size n is reported
 abbrev pub sizeOr : ℕ → Answer → Answer
 sizeOr n (answered o) = answered n
 sizeOr n (refused e) = refused e
