@@ -5,6 +5,7 @@ pub mod LocalLaws
 pub mod LocalSteps
 pub mod PathLaws
 pub mod ReadSteps
+pub mod PlainItems
 pub mod ParseSteps
 pub mod FillingLaws
 pub mod FillingParts
