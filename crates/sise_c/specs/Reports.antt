@@ -4,6 +4,8 @@ use Prim.Native.Nat.{ℕ}
 use mathlib.Core.Path.{_≡_}
 use mathlib.Core.Bool.{Bool, cond}
 use mathlib.Core.List.{List, [], _∷_}
+use lib.ListN.{length}
+use Rattle.sise_tree.specs.ParseTree.{longest}
 use Rattle.sise_tree.specs.Answers.{Answer, answered, refused, numberOf}
 use Rattle.sise_tree_writer.specs.SerializeTree.{Writes}
 
@@ -29,3 +31,7 @@ sizeOr n (refused e) = refused e
 -- the bytes that a tree written from the buffer's start takes
 abbrev pub sizeOf : Writes → Answer
 sizeOf d = sizeOr (d .serializer .position) (d .answer)
+
+-- those that it takes in each buffer of the most bytes that are written
+abbrev pub ReportsSize : (List ℕ → Writes) → ℕ → List ℕ → Type 0
+ReportsSize d r now = (b : List ℕ) → length b ≡ longest → Reports (sizeOf (d b)) r now

@@ -20,16 +20,12 @@ use sise_tree_writer::measure_text;
 use sise_tree_writer::write_text;
 use sise_util::check_atom;
 ghost use mathlib.Core.Path.{_≡_};
-ghost use mathlib.Core.List.{List};
-ghost use Prim.Native.Nat.{ℕ};
-ghost use lib.ListN.{length};
 ghost use Rattle.sise_util.specs.Atom.{isAtom};
 ghost use Rattle.sise_serializer.specs.Serializer.{style};
 ghost use Rattle.sise_tree.specs.IndexPath.{indexPath};
-ghost use Rattle.sise_tree.specs.ParseTree.{longest};
 ghost use Rattle.sise_tree.specs.ParseText.{parseText};
 ghost use Rattle.sise_tree_writer.specs.Writing.{writeText};
-ghost use Rattle.sise_c.specs.Reports.{checked, Reports, sizeOf};
+ghost use Rattle.sise_c.specs.Reports.{checked, Reports, sizeOf, ReportsSize};
 ghost use Rattle.sise_c.specs.Items.{readItems};
 ghost use Rattle.sise_c.specs.Written.{WritesCalls};
 
@@ -102,7 +98,7 @@ pub extern "C" fn sise_measure_tree(
     final_break: bool,
     values: &mut Values,
 ) -> u32
-    ensures { λ r. ⌜ ((b : List ℕ) → length b ≡ longest → Reports (sizeOf (writeText (style (now («line_break» .entry)) (now (indentation .entry))) b (now (text .entry)) (now (table .entry)) «break_line_at» «final_break»)) r (now (values .exit))) ⌝ }
+    ensures { λ r. ⌜ ReportsSize (λ b. writeText (style (now («line_break» .entry)) (now (indentation .entry))) b (now (text .entry)) (now (table .entry)) «break_line_at» «final_break») r (now (values .exit)) ⌝ }
 {
     let measured = measure_text(
         line_break,

@@ -1,7 +1,6 @@
 -- A plain token inside a list is the item that next_item gives there, and the reader's record stays in its phase.
 -- Assumes nothing.
 use Prim.Native.Nat.{ℕ, _+_, _-_}
-use native.Mathlib.Omega.{arith}
 use mathlib.Core.Path.{_≡_, refl, sym, ap, _∙_}
 use mathlib.Core.Bool.{Bool, true, cond}
 use mathlib.Core.List.{List}
