@@ -1,4 +1,4 @@
--- How answers are told: one that is answered, one of a tree call with another tag than the first, which is a refusal, and one that a call handed on.
+-- How answers are reported: one that is answered, one of a tree call with another tag than the first, which is a refusal, and one that a call handed on.
 -- Assumes nothing.
 use Prim.Native.Nat.{ℕ}
 use mathlib.Core.Path.{_≡_, refl, sym, ap, _∙_, subst}
@@ -23,31 +23,31 @@ use Rattle.sise_tree.specs.Tree.{Node}
 use Rattle.sise_serializer.specs.Calls.{Call}
 use Rattle.sise_serializer.specs.Serializer.{Style, freshSerializer}
 use Rattle.sise_serializer.specs.declared.serializer.Serializer.{Serializer}
-use Rattle.sise_c.specs.Told.{valuesOf, Tells, sizeOr, sizeOf}
+use Rattle.sise_c.specs.Reports.{valuesOf, Reports, sizeOr, sizeOf}
 
 -- the same answer by another name
-pub tells-by : {a b : Answer} {r m : ℕ} {now : List ℕ} → a ≡ b → r ≡ m → Tells b m now → Tells a r now
-tells-by e d t = record { result = d ∙ t .result ∙ ap numberOf (sym e); values = t .values ∙ ap valuesOf (sym e) }
+pub reports-by : {a b : Answer} {r m : ℕ} {now : List ℕ} → a ≡ b → r ≡ m → Reports b m now → Reports a r now
+reports-by e d t = record { result = d ∙ t .result ∙ ap numberOf (sym e); values = t .values ∙ ap valuesOf (sym e) }
 
-pub tells-answered : {a : Answer} {n : ℕ} → a ≡ answered n → Tells a 0 (n ∷ 0 ∷ [])
-tells-answered e = tells-by e refl (record { result = refl; values = refl })
+pub reports-answered : {a : Answer} {n : ℕ} → a ≡ answered n → Reports a 0 (n ∷ 0 ∷ [])
+reports-answered e = reports-by e refl (record { result = refl; values = refl })
 
 pub parsed-refusal : (a : ParsedTree) → OneOf (1 ∷ 2 ∷ 3 ∷ 4 ∷ []) (tagOf parsings.the-type a)
-    → Tells (parsedAs a) (numberOf (parsedAs a)) (placeOf (parsedAs a) ∷ codeOf (parsedAs a) ∷ [])
+    → Reports (parsedAs a) (numberOf (parsedAs a)) (placeOf (parsedAs a) ∷ codeOf (parsedAs a) ∷ [])
 parsed-refusal (parsed.Nodes n) k = absurd (no-zero 0 (1 ∷ 2 ∷ 3 ∷ []) k)
 parsed-refusal (parsed.Refused e) k = record { result = refl; values = refl }
 parsed-refusal (parsed.UnexpectedListEnd p) k = record { result = refl; values = refl }
 parsed-refusal parsed.TextTooLong k = record { result = refl; values = refl }
 parsed-refusal parsed.TableFull k = record { result = refl; values = refl }
 
-pub indexed-refusal : (a : Indexed) → OneOf (1 ∷ 2 ∷ 3 ∷ []) (tagOf indexings.the-type a) → Tells (indexedAs a) (numberOf (indexedAs a)) (0 ∷ 0 ∷ [])
+pub indexed-refusal : (a : Indexed) → OneOf (1 ∷ 2 ∷ 3 ∷ []) (tagOf indexings.the-type a) → Reports (indexedAs a) (numberOf (indexedAs a)) (0 ∷ 0 ∷ [])
 indexed-refusal (indexed.Node i) k = absurd (no-zero 0 (1 ∷ 2 ∷ []) k)
 indexed-refusal indexed.TextTooLong k = record { result = refl; values = refl }
 indexed-refusal indexed.NotATree k = record { result = refl; values = refl }
 indexed-refusal indexed.NoSuchNode k = record { result = refl; values = refl }
 
 pub put-refusal : (n : ℕ) (a : PutTree) → OneOf (1 ∷ 2 ∷ 3 ∷ 4 ∷ 5 ∷ 6 ∷ 7 ∷ []) (tagOf puts.the-type a)
-    → Tells (sizeOr n (putAs a)) (numberOf (putAs a)) (0 ∷ 0 ∷ [])
+    → Reports (sizeOr n (putAs a)) (numberOf (putAs a)) (0 ∷ 0 ∷ [])
 put-refusal n (put.At o) k = absurd (no-zero 0 (1 ∷ 2 ∷ 3 ∷ 4 ∷ 5 ∷ 6 ∷ []) k)
 put-refusal n put.TextTooLong k = record { result = refl; values = refl }
 put-refusal n put.UnsoundRecord k = record { result = refl; values = refl }
@@ -58,23 +58,23 @@ put-refusal n put.TooDeep k = record { result = refl; values = refl }
 put-refusal n put.NoRoom k = record { result = refl; values = refl }
 
 -- a refusal's number, place and code point, as the three methods give them
-pub tells-refusal : (a : ParsedTree) {r p k : ℕ} → r ≡ numberOf (parsedAs a) → p ≡ placeOf (parsedAs a) → k ≡ codeOf (parsedAs a)
-    → OneOf (1 ∷ 2 ∷ 3 ∷ 4 ∷ []) (tagOf parsings.the-type a) → Tells (parsedAs a) r (p ∷ k ∷ [])
-tells-refusal a {k = k} d e f h =
+pub reports-refusal : (a : ParsedTree) {r p k : ℕ} → r ≡ numberOf (parsedAs a) → p ≡ placeOf (parsedAs a) → k ≡ codeOf (parsedAs a)
+    → OneOf (1 ∷ 2 ∷ 3 ∷ 4 ∷ []) (tagOf parsings.the-type a) → Reports (parsedAs a) r (p ∷ k ∷ [])
+reports-refusal a {k = k} d e f h =
     let t = parsed-refusal a h in
     record { result = d ∙ t .result; values = ap (λ (x : ℕ). x ∷ k ∷ []) e ∙ ap (λ (x : ℕ). placeOf (parsedAs a) ∷ x ∷ []) f ∙ t .values }
 
 -- what a tree's writing, and its measuring, promise of a fresh record
-module _ (s : Style) (buffer text words : List ℕ) (calls : Node → List Call) {q : Serializer} (e : q ≡ freshSerializer) {w : TreeWrote} {r : ℕ} {now : List ℕ} (t : Tells (sizeOr (w .serializer .position) (putAs (w .answer))) r now) where
-  pub tells-measured : DoesMeasure (writeTree s buffer q text words calls) w → Tells (sizeOf (writeTree s buffer freshSerializer text words calls)) r now
-  tells-measured d =
+module _ (s : Style) (buffer text words : List ℕ) (calls : Node → List Call) {q : Serializer} (e : q ≡ freshSerializer) {w : TreeWrote} {r : ℕ} {now : List ℕ} (t : Reports (sizeOr (w .serializer .position) (putAs (w .answer))) r now) where
+  pub reports-measured : DoesMeasure (writeTree s buffer q text words calls) w → Reports (sizeOf (writeTree s buffer freshSerializer text words calls)) r now
+  reports-measured d =
       let p = subst (λ (x : Serializer). DoesMeasure (writeTree s buffer x text words calls) w) e d in
       let z = ap (λ (x : Serializer). sizeOr (x .position) (putAs (w .answer))) (p .serializer) ∙ ap (sizeOr (writeTree s buffer freshSerializer text words calls .serializer .position)) (p .answer) in
-      tells-by (sym z) refl t
+      reports-by (sym z) refl t
 
-  pub tells-written : {bytes : List ℕ} → DoesWrite (writeTree s buffer q text words calls) w bytes
-      → Tells (sizeOf (writeTree s buffer freshSerializer text words calls)) r now × (bytes ≡ writeTree s buffer freshSerializer text words calls .buffer)
-  tells-written {bytes} d = (
-    tells-measured (record { serializer = d .serializer; answer = d .answer }),
+  pub reports-written : {bytes : List ℕ} → DoesWrite (writeTree s buffer q text words calls) w bytes
+      → Reports (sizeOf (writeTree s buffer freshSerializer text words calls)) r now × (bytes ≡ writeTree s buffer freshSerializer text words calls .buffer)
+  reports-written {bytes} d = (
+    reports-measured (record { serializer = d .serializer; answer = d .answer }),
     d .buffer ∙ ap (λ (x : Serializer). writeTree s buffer x text words calls .buffer) e,
   )

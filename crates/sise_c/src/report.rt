@@ -1,4 +1,4 @@
-// How an answer is told: a number for the result, and two words for the program that made the call.
+// How an answer is reported: its number as the result, its two values in the words that the caller lent.
 use sise_parser::ParseError;
 use sise_tree::Indexed;
 use sise_tree::ParsedTree;
@@ -6,13 +6,13 @@ use sise_tree_writer::PutTree;
 ghost use Rattle.sise_parser.specs.Refusals.{refusalOf};
 ghost use Rattle.sise_tree.specs.Answers.{refused, indexedAs, parsedAs};
 ghost use Rattle.sise_tree_writer.specs.Answers.{putAs};
-ghost use Rattle.sise_c.specs.Told.{Tells, sizeOr};
+ghost use Rattle.sise_c.specs.Reports.{Reports, sizeOr};
 
-// What a call tells beside its result.
+// What a call answers beside its result.
 pub type Values = [u64; 2];
 
-pub(crate) fn tell_indexed(answer: Indexed, values: &mut Values) -> u32
-    ensures { λ r. ⌜ Tells (indexedAs answer) r (now (values .exit)) ⌝ }
+pub(crate) fn report_indexed(answer: Indexed, values: &mut Values) -> u32
+    ensures { λ r. ⌜ Reports (indexedAs answer) r (now (values .exit)) ⌝ }
 {
     if let Indexed::Node(index) = answer {
         *values = [index as u64, 0];
@@ -22,8 +22,8 @@ pub(crate) fn tell_indexed(answer: Indexed, values: &mut Values) -> u32
     answer.number()
 }
 
-pub(crate) fn tell_parsed(answer: ParsedTree, values: &mut Values) -> u32
-    ensures { λ r. ⌜ Tells (parsedAs answer) r (now (values .exit)) ⌝ }
+pub(crate) fn report_parsed(answer: ParsedTree, values: &mut Values) -> u32
+    ensures { λ r. ⌜ Reports (parsedAs answer) r (now (values .exit)) ⌝ }
 {
     if let ParsedTree::Nodes(nodes) = answer {
         *values = [nodes as u64, 0];
@@ -36,8 +36,8 @@ pub(crate) fn tell_parsed(answer: ParsedTree, values: &mut Values) -> u32
 }
 
 // A tree was written up to `position`, or refused.
-pub(crate) fn tell_put(answer: PutTree, position: usize, values: &mut Values) -> u32
-    ensures { λ r. ⌜ Tells (sizeOr position (putAs answer)) r (now (values .exit)) ⌝ }
+pub(crate) fn report_put(answer: PutTree, position: usize, values: &mut Values) -> u32
+    ensures { λ r. ⌜ Reports (sizeOr position (putAs answer)) r (now (values .exit)) ⌝ }
 {
     if let PutTree::At(_) = answer {
         *values = [position as u64, 0];
@@ -47,8 +47,8 @@ pub(crate) fn tell_put(answer: PutTree, position: usize, values: &mut Values) ->
     answer.number()
 }
 
-pub(crate) fn tell_refused(error: ParseError, values: &mut Values) -> u32
-    ensures { λ r. ⌜ Tells (refused (refusalOf error)) r (now (values .exit)) ⌝ }
+pub(crate) fn report_refused(error: ParseError, values: &mut Values) -> u32
+    ensures { λ r. ⌜ Reports (refused (refusalOf error)) r (now (values .exit)) ⌝ }
 {
     let place = error.place();
     let code = error.code();
