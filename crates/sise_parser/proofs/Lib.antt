@@ -5,7 +5,5 @@ pub mod Placed
 pub mod Calls
 pub mod ReaderLaws
 pub mod Utf8Borders
-pub mod Shifted
-pub mod Moved
 pub mod Lossless
 pub mod Parts

@@ -41,7 +41,8 @@ pub fn is_atom_string_chr(chr: u8) -> bool
     ensures { λ r. ⌜ r ≡ isStringChr chr ⌝ }
 {
     match chr {
-        b' '..=b'!' | b'#'..=b'[' | b']'..=b'~' => true,
+        b'"' | b'\\' => false,
+        b' '..=b'~' => true,
         _ => false,
     }
 }
