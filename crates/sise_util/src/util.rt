@@ -6,33 +6,35 @@ ghost use lib.ListN.{drop};
 ghost use Rattle.sise_util.specs.Atom.{inside, isAtom, isPlain, isAtomPrefix};
 ghost use Rattle.sise_util.specs.Parts.{afterString, maskOf};
 
-// Whether `chr` is an atom character outside a string.
+// Whether `chr` is an atom character outside a string. Most are small letters, so these come first: in one `match` the compiler would test them last.
 pub fn is_atom_chr(chr: u8) -> bool
     ensures { λ r. ⌜ r ≡ isAtomChr chr ⌝ }
 {
     match chr {
-        b'!'
-        | b'#'
-        | b'$'
-        | b'%'
-        | b'&'
-        | b'*'
-        | b'+'
-        | b'-'
-        | b'.'
-        | b'/'
-        | b'0'..=b'9'
-        | b':'
-        | b'<'
-        | b'='
-        | b'>'
-        | b'?'
-        | b'@'
-        | b'A'..=b'Z'
-        | b'_'
-        | b'a'..=b'z'
-        | b'~' => true,
-        _ => false,
+        b'a'..=b'z' => true,
+        _ => match chr {
+            b'!'
+            | b'#'
+            | b'$'
+            | b'%'
+            | b'&'
+            | b'*'
+            | b'+'
+            | b'-'
+            | b'.'
+            | b'/'
+            | b'0'..=b'9'
+            | b':'
+            | b'<'
+            | b'='
+            | b'>'
+            | b'?'
+            | b'@'
+            | b'A'..=b'Z'
+            | b'_'
+            | b'~' => true,
+            _ => false,
+        },
     }
 }
 
