@@ -17,7 +17,7 @@ use Rattle.sise_util.proofs.Ranges.{split}
 use Rattle.sise_util.proofs.ClassLaws.{no-class}
 use Rattle.sise_util.proofs.Utf8Laws.{ascii, ValidStep, valid-step}
 use Rattle.sise_parser.specs.Lexer.{Lexed, found, bad, wrong, between}
-use Rattle.sise_parser.proofs.Induction.{isOther, Cases, in-between}
+use Rattle.sise_parser.proofs.Induction.{isOther, InAtom, Cases, in-between}
 
 -- the text is valid from q on
 abbrev pub Border : List ℕ → ℕ → Type 0
@@ -63,8 +63,8 @@ wrong-border n b l p text h e v =
 abbrev R : List ℕ → ℕ → Lexed → Type 0
 R l p x = (text : List ℕ) → From text p l → Utf8Octets l → Bordered text x
 
-abbrev A : List ℕ → ℕ → ℕ → Lexed → Type 0
-A l p s x = R l p x
+abbrev A : InAtom → List ℕ → ℕ → ℕ → Lexed → Type 0
+A t l p s x = R l p x
 
 on : (b : ℕ) (l : List ℕ) (p : ℕ) (x : Lexed) → isOther (classOf b) ≡ false → R l (p + 1) x → R (b ∷ l) p x
 on b l p x a h text e v = h text (next-from text p b l e) (ascii-next b l (below (small b a)) v)
@@ -82,15 +82,15 @@ cases : Cases R A
 cases =
     record {
       passed = on;
-      atomBegun = on;
+      atomBegun = λ t b l p x a i h. on b l p x a h;
       atEnd = λ p text e v. subst Utf8Octets (sym e) v;
-      opened = λ b l p a text e v. after-one b l p text a e v;
-      closed = λ b l p a text e v. after-one b l p text a e v;
-      refused = λ n b l p h text e v. wrong-border n b l p text h e v;
-      passedInAtom = λ b l p s x a h. on b l p x a h;
+      opened = λ b l p c text e v. after-one b l p text (ap isOther c) e v;
+      closed = λ b l p c text e v. after-one b l p text (ap isOther c) e v;
+      refused = λ n b l p h k text e v. wrong-border n b l p text (omega arith) e v;
+      passedInAtom = λ t u b l p s x a i h. on b l p x a h;
       stopped = λ l p s text e v. subst Utf8Octets (sym e) v;
-      cut = λ p s text e v. (lit< tt, subst Utf8Octets (sym e) v);
-      refusedInAtom = λ b l p s text e v. wrong-border 2 b l p text (lit< tt) e v;
+      cut = λ t p s text e v. (lit< tt, subst Utf8Octets (sym e) v);
+      refusedInAtom = λ t b l p s text e v. wrong-border 2 b l p text (lit< tt) e v;
     }
 
 -- the token at or after a border of a valid text
