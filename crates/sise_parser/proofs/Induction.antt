@@ -38,13 +38,13 @@ passes afterBackslash l = escaped l
 pub record Cases (R : List ℕ → ℕ → Lexed → Type 0) (A : InAtom → List ℕ → ℕ → ℕ → Lexed → Type 0) : Type 0 where
   pub passed : (b : ℕ) (l : List ℕ) (p : ℕ) (x : Lexed) → isOther (classOf b) ≡ false → R l (p + 1) x → R (b ∷ l) p x
   pub atomBegun : (t : InAtom) (b : ℕ) (l : List ℕ) (p : ℕ) (x : Lexed) → isOther (classOf b) ≡ false → ((m : List ℕ) → outside (b ∷ m) ≡ passes t m)
-    → A t l (p + 1) p x → R (b ∷ l) p x
+      → A t l (p + 1) p x → R (b ∷ l) p x
   pub atEnd : (p : ℕ) → R [] p (found eof p p)
   pub opened : (b : ℕ) (l : List ℕ) (p : ℕ) → classOf b ≡ left → R (b ∷ l) p (found opening p (p + 1))
   pub closed : (b : ℕ) (l : List ℕ) (p : ℕ) → classOf b ≡ right → R (b ∷ l) p (found closing p (p + 1))
   pub refused : (n b : ℕ) (l : List ℕ) (p : ℕ) → 1 ≤ n → n ≤ 3 → R (b ∷ l) p (wrong n (b ∷ l) p)
   pub passedInAtom : (t u : InAtom) (b : ℕ) (l : List ℕ) (p s : ℕ) (x : Lexed) → isOther (classOf b) ≡ false
-    → ((m : List ℕ) → passes t (b ∷ m) ≡ passes u m) → A u l (p + 1) s x → A t (b ∷ l) p s x
+      → ((m : List ℕ) → passes t (b ∷ m) ≡ passes u m) → A u l (p + 1) s x → A t (b ∷ l) p s x
   pub stopped : (l : List ℕ) (p s : ℕ) → A outsideString l p s (found (atom (p - s)) s p)
   pub cut : (t : InAtom) (p s : ℕ) → A t [] p s (unfinished p)
   pub refusedInAtom : (t : InAtom) (b : ℕ) (l : List ℕ) (p s : ℕ) → A t (b ∷ l) p s (wrong 2 (b ∷ l) p)

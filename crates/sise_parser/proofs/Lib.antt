@@ -7,3 +7,6 @@ pub mod ReaderLaws
 pub mod Utf8Borders
 pub mod Lossless
 pub mod Parts
+pub mod Readings
+pub mod TokenLaws
+pub mod RefusedLaws

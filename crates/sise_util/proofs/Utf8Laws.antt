@@ -109,7 +109,7 @@ record Read (rs : List Range) (c n : ℕ) (l : List ℕ) (d k : ℕ) : Type 0 wh
   code : d ≡ bitsOf c octets
   count : k ≡ n
 
-ill≢well : {d k : ℕ} → Ill ≡ Well d k → ⊥
+pub ill≢well : {d k : ℕ} → Ill ≡ Well d k → ⊥
 ill≢well e = let z : _≡_ {A = ℕ} 0 1 = cc in omega arith
 
 follow-hit : (r : Range) (rs : List Range) (c n b : ℕ) (l : List ℕ) → within (r .lo) (r .hi) b ≡ true → follow c n (r ∷ rs) (b ∷ l) ≡ follow (c * 64 + (b - 0x80)) n rs l
