@@ -1,11 +1,13 @@
 -- Induction over the lexer: what is kept by a byte that is passed, and holds of each way to end, holds of every token. In an atom the lexer and the test
 -- of an atom go from state to state together.
 -- Assumes nothing.
-use mathlib.Core.Path.{_≡_, refl, subst, sym}
+use mathlib.Core.Path.{_≡_, refl, sym, ap, _∙_}
 use mathlib.Core.Bool.{Bool, true, false}
 use mathlib.Core.List.{List, [], _∷_}
 use Prim.Native.Nat.{ℕ, _+_, _-_, _≤_}
 use lib.Dec.{lit≤}
+use lib.ListN.{drop}
+use lib.Seq.{drop-drop}
 use Rattle.sise_util.specs.Classes.{Class, space, quote, tab, atomChr, lineEnd, backslash, other, semicolon, left, right, printable, classOf}
 use Rattle.sise_util.specs.Atom.{outside, inside, escaped}
 use Rattle.sise_parser.specs.Lexer.{Lexed, found, eof, opening, closing, atom, unfinished, wrong, between, comment, plain, string, escape}
@@ -23,6 +25,13 @@ isOther semicolon = false
 isOther left = false
 isOther right = false
 isOther printable = false
+
+-- the bytes of the text from p on are l
+abbrev pub From : List ℕ → ℕ → List ℕ → Type 0
+From text p l = drop p text ≡ l
+
+pub next-from : (text : List ℕ) (p : ℕ) {b : ℕ} {l : List ℕ} → From text p (b ∷ l) → From text (p + 1) l
+next-from text p e = sym (drop-drop 1 p text) ∙ ap (drop 1) e
 
 -- the three states of an atom
 pub data InAtom : Type 0 where
@@ -54,18 +63,15 @@ module _ (R : List ℕ → ℕ → Lexed → Type 0) (A : InAtom → List ℕ �
   unfolding between outside
   between-step b l p hb hc hp hs = go (classOf b) refl
     where
-      asc : {c : Class} → classOf b ≡ c → isOther c ≡ false → isOther (classOf b) ≡ false
-      asc e h = subst (λ (x : Class). isOther x ≡ false) (sym e) h
-
       go : (c : Class) → classOf b ≡ c → R (b ∷ l) p (between (b ∷ l) p)
-      go space e = rw (e, between) (k .passed b l p _ (asc e refl) hb)
-      go quote e = rw (e, between) (k .atomBegun insideString b l p _ (asc e refl) (λ m. rw (e, outside)) hs)
-      go tab e = rw (e, between) (k .passed b l p _ (asc e refl) hb)
-      go atomChr e = rw (e, between) (k .atomBegun outsideString b l p _ (asc e refl) (λ m. rw (e, outside)) hp)
-      go lineEnd e = rw (e, between) (k .passed b l p _ (asc e refl) hb)
+      go space e = rw (e, between) (k .passed b l p _ (ap isOther e) hb)
+      go quote e = rw (e, between) (k .atomBegun insideString b l p _ (ap isOther e) (λ m. rw (e, outside)) hs)
+      go tab e = rw (e, between) (k .passed b l p _ (ap isOther e) hb)
+      go atomChr e = rw (e, between) (k .atomBegun outsideString b l p _ (ap isOther e) (λ m. rw (e, outside)) hp)
+      go lineEnd e = rw (e, between) (k .passed b l p _ (ap isOther e) hb)
       go backslash e = rw (e, between) (k .refused 1 b l p (lit≤ tt) (lit≤ tt))
       go other e = rw (e, between) (k .refused 1 b l p (lit≤ tt) (lit≤ tt))
-      go semicolon e = rw (e, between) (k .passed b l p _ (asc e refl) hc)
+      go semicolon e = rw (e, between) (k .passed b l p _ (ap isOther e) hc)
       go left e = rw (e, between) (k .opened b l p e)
       go right e = rw (e, between) (k .closed b l p e)
       go printable e = rw (e, between) (k .refused 1 b l p (lit≤ tt) (lit≤ tt))
@@ -74,34 +80,28 @@ module _ (R : List ℕ → ℕ → Lexed → Type 0) (A : InAtom → List ℕ �
   unfolding comment
   comment-step b l p hb hc = go (classOf b) refl
     where
-      asc : {c : Class} → classOf b ≡ c → isOther c ≡ false → isOther (classOf b) ≡ false
-      asc e h = subst (λ (x : Class). isOther x ≡ false) (sym e) h
-
       go : (c : Class) → classOf b ≡ c → R (b ∷ l) p (comment (b ∷ l) p)
-      go space e = rw (e, comment) (k .passed b l p _ (asc e refl) hc)
-      go quote e = rw (e, comment) (k .passed b l p _ (asc e refl) hc)
-      go tab e = rw (e, comment) (k .passed b l p _ (asc e refl) hc)
-      go atomChr e = rw (e, comment) (k .passed b l p _ (asc e refl) hc)
-      go lineEnd e = rw (e, comment) (k .passed b l p _ (asc e refl) hb)
-      go backslash e = rw (e, comment) (k .passed b l p _ (asc e refl) hc)
+      go space e = rw (e, comment) (k .passed b l p _ (ap isOther e) hc)
+      go quote e = rw (e, comment) (k .passed b l p _ (ap isOther e) hc)
+      go tab e = rw (e, comment) (k .passed b l p _ (ap isOther e) hc)
+      go atomChr e = rw (e, comment) (k .passed b l p _ (ap isOther e) hc)
+      go lineEnd e = rw (e, comment) (k .passed b l p _ (ap isOther e) hb)
+      go backslash e = rw (e, comment) (k .passed b l p _ (ap isOther e) hc)
       go other e = rw (e, comment) (k .refused 3 b l p (lit≤ tt) (lit≤ tt))
-      go semicolon e = rw (e, comment) (k .passed b l p _ (asc e refl) hc)
-      go left e = rw (e, comment) (k .passed b l p _ (asc e refl) hc)
-      go right e = rw (e, comment) (k .passed b l p _ (asc e refl) hc)
-      go printable e = rw (e, comment) (k .passed b l p _ (asc e refl) hc)
+      go semicolon e = rw (e, comment) (k .passed b l p _ (ap isOther e) hc)
+      go left e = rw (e, comment) (k .passed b l p _ (ap isOther e) hc)
+      go right e = rw (e, comment) (k .passed b l p _ (ap isOther e) hc)
+      go printable e = rw (e, comment) (k .passed b l p _ (ap isOther e) hc)
 
   plain-step : (b : ℕ) (l : List ℕ) (p s : ℕ) → A outsideString l (p + 1) s (plain l (p + 1) s) → A insideString l (p + 1) s (string l (p + 1) s) → A outsideString (b ∷ l) p s (plain (b ∷ l) p s)
   unfolding plain outside
   plain-step b l p s hp hs = go (classOf b) refl
     where
-      asc : {c : Class} → classOf b ≡ c → isOther c ≡ false → isOther (classOf b) ≡ false
-      asc e h = subst (λ (x : Class). isOther x ≡ false) (sym e) h
-
       go : (c : Class) → classOf b ≡ c → A outsideString (b ∷ l) p s (plain (b ∷ l) p s)
       go space e = rw (e, plain) (k .stopped (b ∷ l) p s)
-      go quote e = rw (e, plain) (k .passedInAtom outsideString insideString b l p s _ (asc e refl) (λ m. rw (e, outside)) hs)
+      go quote e = rw (e, plain) (k .passedInAtom outsideString insideString b l p s _ (ap isOther e) (λ m. rw (e, outside)) hs)
       go tab e = rw (e, plain) (k .stopped (b ∷ l) p s)
-      go atomChr e = rw (e, plain) (k .passedInAtom outsideString outsideString b l p s _ (asc e refl) (λ m. rw (e, outside)) hp)
+      go atomChr e = rw (e, plain) (k .passedInAtom outsideString outsideString b l p s _ (ap isOther e) (λ m. rw (e, outside)) hp)
       go lineEnd e = rw (e, plain) (k .stopped (b ∷ l) p s)
       go backslash e = rw (e, plain) (k .stopped (b ∷ l) p s)
       go other e = rw (e, plain) (k .stopped (b ∷ l) p s)
@@ -114,41 +114,35 @@ module _ (R : List ℕ → ℕ → Lexed → Type 0) (A : InAtom → List ℕ �
   unfolding string inside
   string-step b l p s hp hs he = go (classOf b) refl
     where
-      asc : {c : Class} → classOf b ≡ c → isOther c ≡ false → isOther (classOf b) ≡ false
-      asc e h = subst (λ (x : Class). isOther x ≡ false) (sym e) h
-
       go : (c : Class) → classOf b ≡ c → A insideString (b ∷ l) p s (string (b ∷ l) p s)
-      go space e = rw (e, string) (k .passedInAtom insideString insideString b l p s _ (asc e refl) (λ m. rw (e, inside)) hs)
-      go quote e = rw (e, string) (k .passedInAtom insideString outsideString b l p s _ (asc e refl) (λ m. rw (e, inside)) hp)
+      go space e = rw (e, string) (k .passedInAtom insideString insideString b l p s _ (ap isOther e) (λ m. rw (e, inside)) hs)
+      go quote e = rw (e, string) (k .passedInAtom insideString outsideString b l p s _ (ap isOther e) (λ m. rw (e, inside)) hp)
       go tab e = rw (e, string) (k .refusedInAtom insideString b l p s)
-      go atomChr e = rw (e, string) (k .passedInAtom insideString insideString b l p s _ (asc e refl) (λ m. rw (e, inside)) hs)
+      go atomChr e = rw (e, string) (k .passedInAtom insideString insideString b l p s _ (ap isOther e) (λ m. rw (e, inside)) hs)
       go lineEnd e = rw (e, string) (k .refusedInAtom insideString b l p s)
-      go backslash e = rw (e, string) (k .passedInAtom insideString afterBackslash b l p s _ (asc e refl) (λ m. rw (e, inside)) he)
+      go backslash e = rw (e, string) (k .passedInAtom insideString afterBackslash b l p s _ (ap isOther e) (λ m. rw (e, inside)) he)
       go other e = rw (e, string) (k .refusedInAtom insideString b l p s)
-      go semicolon e = rw (e, string) (k .passedInAtom insideString insideString b l p s _ (asc e refl) (λ m. rw (e, inside)) hs)
-      go left e = rw (e, string) (k .passedInAtom insideString insideString b l p s _ (asc e refl) (λ m. rw (e, inside)) hs)
-      go right e = rw (e, string) (k .passedInAtom insideString insideString b l p s _ (asc e refl) (λ m. rw (e, inside)) hs)
-      go printable e = rw (e, string) (k .passedInAtom insideString insideString b l p s _ (asc e refl) (λ m. rw (e, inside)) hs)
+      go semicolon e = rw (e, string) (k .passedInAtom insideString insideString b l p s _ (ap isOther e) (λ m. rw (e, inside)) hs)
+      go left e = rw (e, string) (k .passedInAtom insideString insideString b l p s _ (ap isOther e) (λ m. rw (e, inside)) hs)
+      go right e = rw (e, string) (k .passedInAtom insideString insideString b l p s _ (ap isOther e) (λ m. rw (e, inside)) hs)
+      go printable e = rw (e, string) (k .passedInAtom insideString insideString b l p s _ (ap isOther e) (λ m. rw (e, inside)) hs)
 
   escape-step : (b : ℕ) (l : List ℕ) (p s : ℕ) → A insideString l (p + 1) s (string l (p + 1) s) → A afterBackslash (b ∷ l) p s (escape (b ∷ l) p s)
   unfolding escape escaped
   escape-step b l p s hs = go (classOf b) refl
     where
-      asc : {c : Class} → classOf b ≡ c → isOther c ≡ false → isOther (classOf b) ≡ false
-      asc e h = subst (λ (x : Class). isOther x ≡ false) (sym e) h
-
       go : (c : Class) → classOf b ≡ c → A afterBackslash (b ∷ l) p s (escape (b ∷ l) p s)
-      go space e = rw (e, escape) (k .passedInAtom afterBackslash insideString b l p s _ (asc e refl) (λ m. rw (e, escaped)) hs)
-      go quote e = rw (e, escape) (k .passedInAtom afterBackslash insideString b l p s _ (asc e refl) (λ m. rw (e, escaped)) hs)
+      go space e = rw (e, escape) (k .passedInAtom afterBackslash insideString b l p s _ (ap isOther e) (λ m. rw (e, escaped)) hs)
+      go quote e = rw (e, escape) (k .passedInAtom afterBackslash insideString b l p s _ (ap isOther e) (λ m. rw (e, escaped)) hs)
       go tab e = rw (e, escape) (k .refusedInAtom afterBackslash b l p s)
-      go atomChr e = rw (e, escape) (k .passedInAtom afterBackslash insideString b l p s _ (asc e refl) (λ m. rw (e, escaped)) hs)
+      go atomChr e = rw (e, escape) (k .passedInAtom afterBackslash insideString b l p s _ (ap isOther e) (λ m. rw (e, escaped)) hs)
       go lineEnd e = rw (e, escape) (k .refusedInAtom afterBackslash b l p s)
-      go backslash e = rw (e, escape) (k .passedInAtom afterBackslash insideString b l p s _ (asc e refl) (λ m. rw (e, escaped)) hs)
+      go backslash e = rw (e, escape) (k .passedInAtom afterBackslash insideString b l p s _ (ap isOther e) (λ m. rw (e, escaped)) hs)
       go other e = rw (e, escape) (k .refusedInAtom afterBackslash b l p s)
-      go semicolon e = rw (e, escape) (k .passedInAtom afterBackslash insideString b l p s _ (asc e refl) (λ m. rw (e, escaped)) hs)
-      go left e = rw (e, escape) (k .passedInAtom afterBackslash insideString b l p s _ (asc e refl) (λ m. rw (e, escaped)) hs)
-      go right e = rw (e, escape) (k .passedInAtom afterBackslash insideString b l p s _ (asc e refl) (λ m. rw (e, escaped)) hs)
-      go printable e = rw (e, escape) (k .passedInAtom afterBackslash insideString b l p s _ (asc e refl) (λ m. rw (e, escaped)) hs)
+      go semicolon e = rw (e, escape) (k .passedInAtom afterBackslash insideString b l p s _ (ap isOther e) (λ m. rw (e, escaped)) hs)
+      go left e = rw (e, escape) (k .passedInAtom afterBackslash insideString b l p s _ (ap isOther e) (λ m. rw (e, escaped)) hs)
+      go right e = rw (e, escape) (k .passedInAtom afterBackslash insideString b l p s _ (ap isOther e) (λ m. rw (e, escaped)) hs)
+      go printable e = rw (e, escape) (k .passedInAtom afterBackslash insideString b l p s _ (ap isOther e) (λ m. rw (e, escaped)) hs)
 
   mutual
     unfolding between comment plain string escape

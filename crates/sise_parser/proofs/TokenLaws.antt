@@ -21,7 +21,7 @@ use Rattle.sise_util.proofs.Utf8Laws.{ill-formed}
 use Rattle.sise_parser.specs.Refusals.{refusal}
 use Rattle.sise_parser.specs.Lexer.{Lexed, found, bad, eof, opening, closing, atom, wrong, between}
 use Rattle.sise_parser.specs.Refused.{Refuses, wrongChr, unfinished, illFormed}
-use Rattle.sise_parser.proofs.Induction.{InAtom, outsideString, passes, Cases, in-between}
+use Rattle.sise_parser.proofs.Induction.{From, next-from, InAtom, outsideString, passes, Cases, in-between}
 
 -- what a token from s to q, or a refusal, says of the text
 abbrev pub Says : List ℕ → Lexed → Type 0
@@ -31,14 +31,14 @@ Says text (found opening s q) = (getD text s 0 ≡ 40) × (q ≡ s + 1)
 Says text (found closing s q) = (getD text s 0 ≡ 41) × (q ≡ s + 1)
 Says text (found (atom k) s q) = Atom (take k (drop s text))
 
--- the bytes of the text from p on are l
-record From (text : List ℕ) (p : ℕ) (l : List ℕ) : Type 0 where
-  rest : drop p text ≡ l
+-- the bytes of the text from p on are l, and the text ends behind them
+record Ends (text : List ℕ) (p : ℕ) (l : List ℕ) : Type 0 where
+  rest : From text p l
   whole : p + length l ≡ length text
 
-module _ {text : List ℕ} {p b : ℕ} {l : List ℕ} (i : From text p (b ∷ l)) where
-  next : From text (p + 1) l
-  next = record { rest = sym (drop-drop 1 p text) ∙ ap (drop 1) (i .rest); whole = omega (arith, i .whole) }
+module _ {text : List ℕ} {p b : ℕ} {l : List ℕ} (i : Ends text p (b ∷ l)) where
+  next : Ends text (p + 1) l
+  next = record { rest = next-from text p (i .rest); whole = omega (arith, i .whole) }
 
   first : getD text p 0 ≡ b
   first = ap (λ (n : ℕ). getD text n 0) (sym (add-zero p)) ∙ sym (getD-drop p text 0 0) ∙ ap (λ (m : List ℕ). getD m 0 0) (i .rest)
@@ -61,11 +61,11 @@ module _ {text : List ℕ} {p b : ℕ} {l : List ℕ} (i : From text p (b ∷ l)
       ∙ ap (λ (x : List ℕ). take (p - s) (drop s text) ++ take 1 x) (drop-drop (p - s) s text ∙ ap (λ (k : ℕ). drop k text) m ∙ i .rest)
 
 abbrev R : List ℕ → ℕ → Lexed → Type 0
-R l p x = (text : List ℕ) → From text p l → Says text x
+R l p x = (text : List ℕ) → Ends text p l → Says text x
 
 -- what the test says of the bytes from s to p with any bytes m behind them, it says of m in the atom's state
 abbrev A : InAtom → List ℕ → ℕ → ℕ → Lexed → Type 0
-A t l p s x = (text : List ℕ) → From text p l → s < p → ((m : List ℕ) → isAtom (take (p - s) (drop s text) ++ m) ≡ passes t m) → Says text x
+A t l p s x = (text : List ℕ) → Ends text p l → s < p → ((m : List ℕ) → isAtom (take (p - s) (drop s text) ++ m) ≡ passes t m) → Says text x
 
 begun : (t : InAtom) (b : ℕ) (l : List ℕ) (p : ℕ) (x : Lexed) → ((m : List ℕ) → outside (b ∷ m) ≡ passes t m) → A t l (p + 1) p x → R (b ∷ l) p x
 unfolding isAtom
