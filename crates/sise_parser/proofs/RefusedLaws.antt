@@ -2,7 +2,7 @@
 -- refusal of the text the next call reads on, and 8 comes exactly where no character is well formed.
 -- Assumes nothing.
 use mathlib.Core.Path.{_≡_, refl, sym, ap, _∙_, subst}
-use mathlib.Core.Bool.{Bool, true, false}
+use mathlib.Core.Bool.{true}
 use mathlib.Core.Logic.{_↔_}
 use mathlib.Core.List.{List, _∷_}
 use Prim.Native.Nat.{ℕ, _+_, _≤_, _<_}
@@ -11,7 +11,6 @@ use lib.Dec.{lit<, lit≤}
 use lib.ListN.{length, take, drop, getD}
 use Rattle.sise_util.specs.Atom.{Atom}
 use Rattle.sise_util.specs.Utf8.{Utf8Char, character}
-use Rattle.sise_util.specs.declared.utf8.Character.the-variants.{Well}
 use Rattle.sise_util.proofs.Lists.{drop-next}
 use Rattle.sise_util.proofs.Ranges.{split}
 use Rattle.sise_util.proofs.Utf8Laws.{ill≢well, ill-formed, ascii}
