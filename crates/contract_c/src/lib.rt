@@ -1,5 +1,5 @@
-// The exported calls of sise_c once more, each under the contract that it has there and with a body that only calls it. The wrong programs of must-fail/
-// take a body's place: what a contract refuses here, it refuses there. Names are those of sise_c without their `sise_`.
+// Every exported call of sise_c, by its name without `sise_`, under the contract that it has there and with a body that only calls it: the promises of the
+// library on one page. An edit of must-fail/ puts a wrong program in the place of a body, and the contract has to refuse it.
 use sise_c::sise_check_atom;
 use sise_c::sise_index_path;
 use sise_c::sise_measure_tree;

@@ -1,7 +1,7 @@
-// The public calls of sise_serializer that run a list of calls or copy bytes once more, each under the contract that it has there and with a body that only
-// calls it. The wrong programs of must-fail/ take a body's place: what a contract refuses here, it refuses there. contract_writer has the other public calls.
+// The public calls of sise_serializer that run a list of calls or copy bytes, under the contract that each has there and with a body that only calls it:
+// the promises of the library on one page, with contract_writer. An edit of must-fail/ puts a wrong program in the place of a body, and the contract has
+// to refuse it.
 use sise_serializer::Ran;
-use sise_serializer::Serializer;
 ghost use mathlib.Core.Path.{_≡_};
 ghost use mathlib.Core.List.{_++_};
 ghost use lib.ListN.{length};

@@ -1,11 +1,9 @@
-// The public calls of sise_parser once more, each under the contract that it has there and with a body that only calls it. The wrong programs of must-fail/
-// take a body's place: what a contract refuses here, it refuses there. The three calls of Parser are not among them: a function with a struct that holds a
-// reference is proved by hand, so their wrong programs stand in sise_parser.
-use sise_parser::Answer;
+// Every public call of sise_parser but those of Parser, under the contract that it has there and with a body that only calls it: the promises of the
+// library on one page. An edit of must-fail/ puts a wrong program in the place of a body, and the contract has to refuse it. A function with a Parser,
+// which holds a reference, is proved by hand: the wrong programs of its three calls stand in sise_parser.
 use sise_parser::Finished;
 use sise_parser::Next;
 use sise_parser::ParseError;
-use sise_parser::ParsedItem;
 use sise_parser::Phase;
 use sise_parser::Reader;
 ghost use mathlib.Core.Path.{_≡_};

@@ -1,5 +1,5 @@
-// The public calls of sise_tree_writer once more, each under the contract that it has there and with a body that only calls it. The wrong programs of
-// must-fail/ take a body's place: what a contract refuses here, it refuses there.
+// Every public call of sise_tree_writer, under the contract that it has there and with a body that only calls it: the promises of the library on one
+// page. An edit of must-fail/ puts a wrong program in the place of a body, and the contract has to refuse it.
 use sise_serializer::Serializer;
 use sise_tree_writer::PutTree;
 use sise_tree_writer::TreeWrote;

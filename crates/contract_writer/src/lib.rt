@@ -1,5 +1,6 @@
-// The public calls of sise_serializer that make one step once more, each under the contract that it has there and with a body that only calls it. The wrong
-// programs of must-fail/ take a body's place: what a contract refuses here, it refuses there. contract_calls has the other public calls.
+// The public calls of sise_serializer that write one item, and those about its record, under the contract that each has there and with a body that only
+// calls it: the promises of the library on one page, with contract_calls. An edit of must-fail/ puts a wrong program in the place of a body, and the
+// contract has to refuse it.
 use sise_serializer::Flags;
 use sise_serializer::Phase;
 use sise_serializer::Progress;
