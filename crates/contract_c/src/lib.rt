@@ -24,6 +24,9 @@ ghost use Rattle.sise_c.specs.Told.{checked, Tells, sizeOf};
 ghost use Rattle.sise_c.specs.Items.{readItems};
 ghost use Rattle.sise_c.specs.Written.{Writes};
 
+// What a call answers beside its result: the answer and 0, or the refusal's place and code point.
+pub type Values = [u64; 2];
+
 // Whether the bytes are an atom: 0 or 17.
 pub fn check_atom(atom: &[u8]) -> u32
     ensures { λ r. ⌜ r ≡ checked (isAtom (now (atom .entry))) ⌝ }
@@ -32,7 +35,7 @@ pub fn check_atom(atom: &[u8]) -> u32
 }
 
 // Reads a whole text, which is one node, into the table. The first value is how many nodes it has.
-pub fn parse_tree(text: &[u8], table: &mut [u32], values: &mut [u64; 2]) -> u32
+pub fn parse_tree(text: &[u8], table: &mut [u32], values: &mut Values) -> u32
     ensures told { λ r. ⌜ Tells (parseText (now (text .entry)) (now (table .entry)) .answer) r (now (values .exit)) ⌝ }
     ensures words { λ r. ⌜ now (table .exit) ≡ parseText (now (text .entry)) (now (table .entry)) .words ⌝ }
 {
@@ -40,7 +43,7 @@ pub fn parse_tree(text: &[u8], table: &mut [u32], values: &mut [u64; 2]) -> u32
 }
 
 // Finds the node at the end of the path. The first value is its index in the table.
-pub fn index_path(table: &[u32], text: &[u8], path: &[u64], values: &mut [u64; 2]) -> u32
+pub fn index_path(table: &[u32], text: &[u8], path: &[u64], values: &mut Values) -> u32
     ensures { λ r. ⌜ Tells (indexPath (now (table .entry)) (now (text .entry)) (now (path .entry))) r (now (values .exit)) ⌝ }
 {
     sise_index_path(table, text, path, values)
@@ -55,7 +58,7 @@ pub fn serialize_tree(
     table: &[u32],
     break_line_at: u64,
     final_break: bool,
-    values: &mut [u64; 2],
+    values: &mut Values,
 ) -> u32
     ensures told { λ r. ⌜ Tells (sizeOf (writeTree (style (now («line_break» .entry)) (now (indentation .entry))) (now (buf .entry)) freshSerializer (now (text .entry)) (now (table .entry)) (textCalls (now (text .entry)) «break_line_at» «final_break»))) r (now (values .exit)) ⌝ }
     ensures bytes { λ r. ⌜ now (buf .exit) ≡ writeTree (style (now («line_break» .entry)) (now (indentation .entry))) (now (buf .entry)) freshSerializer (now (text .entry)) (now (table .entry)) (textCalls (now (text .entry)) «break_line_at» «final_break») .buffer ⌝ }
@@ -80,7 +83,7 @@ pub fn measure_tree(
     table: &[u32],
     break_line_at: u64,
     final_break: bool,
-    values: &mut [u64; 2],
+    values: &mut Values,
 ) -> u32
     ensures { λ r. ⌜ ((b : List ℕ) → length b ≡ longest → Tells (sizeOf (writeTree (style (now («line_break» .entry)) (now (indentation .entry))) b freshSerializer (now (text .entry)) (now (table .entry)) (textCalls (now (text .entry)) «break_line_at» «final_break»))) r (now (values .exit))) ⌝ }
 {
@@ -96,7 +99,7 @@ pub fn measure_tree(
 }
 
 // Reads the items of a whole text into words, four an item. The first value is how many items there are.
-pub fn read_items(text: &[u8], words: &mut [u64], values: &mut [u64; 2]) -> u32
+pub fn read_items(text: &[u8], words: &mut [u64], values: &mut Values) -> u32
     ensures told { λ r. ⌜ Tells (readItems (now (text .entry)) (now (words .entry)) .answer) r (now (values .exit)) ⌝ }
     ensures words { λ r. ⌜ now (words .exit) ≡ readItems (now (text .entry)) (now (words .entry)) .words ⌝ }
 {
