@@ -8,21 +8,14 @@ use sise_c::sise_read_items;
 use sise_c::sise_serialize_tree;
 use sise_c::sise_write_calls;
 ghost use mathlib.Core.Path.{_≡_};
-ghost use mathlib.Core.List.{List};
-ghost use Prim.Native.Nat.{ℕ};
-ghost use lib.ListN.{length};
 ghost use Rattle.sise_util.specs.Atom.{isAtom};
-ghost use Rattle.sise_serializer.specs.Serializer.{style, freshSerializer};
-ghost use Rattle.sise_serializer.specs.Calls.{writing};
-ghost use Rattle.sise_serializer.specs.Words.{callsOf};
+ghost use Rattle.sise_serializer.specs.Serializer.{style};
 ghost use Rattle.sise_tree.specs.IndexPath.{indexPath};
-ghost use Rattle.sise_tree.specs.ParseTree.{longest};
 ghost use Rattle.sise_tree.specs.ParseText.{parseText};
-ghost use Rattle.sise_tree_writer.specs.SerializeTree.{writeTree};
-ghost use Rattle.sise_tree_writer.specs.Writing.{textCalls};
-ghost use Rattle.sise_c.specs.Told.{checked, Tells, sizeOf};
+ghost use Rattle.sise_tree_writer.specs.Writing.{writeText};
+ghost use Rattle.sise_c.specs.Reports.{checked, Reports, sizeOf, ReportsSize};
 ghost use Rattle.sise_c.specs.Items.{readItems};
-ghost use Rattle.sise_c.specs.Written.{Writes};
+ghost use Rattle.sise_c.specs.Written.{WritesCalls};
 
 // What a call answers beside its result: the answer and 0, or the refusal's place and code point.
 pub type Values = [u64; 2];
@@ -36,7 +29,7 @@ pub fn check_atom(atom: &[u8]) -> u32
 
 // Reads a whole text, which is one node, into the table. The first value is how many nodes it has.
 pub fn parse_tree(text: &[u8], table: &mut [u32], values: &mut Values) -> u32
-    ensures told { λ r. ⌜ Tells (parseText (now (text .entry)) (now (table .entry)) .answer) r (now (values .exit)) ⌝ }
+    ensures answer { λ r. ⌜ Reports (parseText (now (text .entry)) (now (table .entry)) .answer) r (now (values .exit)) ⌝ }
     ensures words { λ r. ⌜ now (table .exit) ≡ parseText (now (text .entry)) (now (table .entry)) .words ⌝ }
 {
     sise_parse_tree(text, table, values)
@@ -44,7 +37,7 @@ pub fn parse_tree(text: &[u8], table: &mut [u32], values: &mut Values) -> u32
 
 // Finds the node at the end of the path. The first value is its index in the table.
 pub fn index_path(table: &[u32], text: &[u8], path: &[u64], values: &mut Values) -> u32
-    ensures { λ r. ⌜ Tells (indexPath (now (table .entry)) (now (text .entry)) (now (path .entry))) r (now (values .exit)) ⌝ }
+    ensures { λ r. ⌜ Reports (indexPath (now (table .entry)) (now (text .entry)) (now (path .entry))) r (now (values .exit)) ⌝ }
 {
     sise_index_path(table, text, path, values)
 }
@@ -60,8 +53,8 @@ pub fn serialize_tree(
     final_break: bool,
     values: &mut Values,
 ) -> u32
-    ensures told { λ r. ⌜ Tells (sizeOf (writeTree (style (now («line_break» .entry)) (now (indentation .entry))) (now (buf .entry)) freshSerializer (now (text .entry)) (now (table .entry)) (textCalls (now (text .entry)) «break_line_at» «final_break»))) r (now (values .exit)) ⌝ }
-    ensures bytes { λ r. ⌜ now (buf .exit) ≡ writeTree (style (now («line_break» .entry)) (now (indentation .entry))) (now (buf .entry)) freshSerializer (now (text .entry)) (now (table .entry)) (textCalls (now (text .entry)) «break_line_at» «final_break») .buffer ⌝ }
+    ensures answer { λ r. ⌜ Reports (sizeOf (writeText (style (now («line_break» .entry)) (now (indentation .entry))) (now (buf .entry)) (now (text .entry)) (now (table .entry)) «break_line_at» «final_break»)) r (now (values .exit)) ⌝ }
+    ensures bytes { λ r. ⌜ now (buf .exit) ≡ writeText (style (now («line_break» .entry)) (now (indentation .entry))) (now (buf .entry)) (now (text .entry)) (now (table .entry)) «break_line_at» «final_break» .buffer ⌝ }
 {
     sise_serialize_tree(
         line_break,
@@ -85,7 +78,7 @@ pub fn measure_tree(
     final_break: bool,
     values: &mut Values,
 ) -> u32
-    ensures { λ r. ⌜ ((b : List ℕ) → length b ≡ longest → Tells (sizeOf (writeTree (style (now («line_break» .entry)) (now (indentation .entry))) b freshSerializer (now (text .entry)) (now (table .entry)) (textCalls (now (text .entry)) «break_line_at» «final_break»))) r (now (values .exit))) ⌝ }
+    ensures { λ r. ⌜ ReportsSize (λ b. writeText (style (now («line_break» .entry)) (now (indentation .entry))) b (now (text .entry)) (now (table .entry)) «break_line_at» «final_break») r (now (values .exit)) ⌝ }
 {
     sise_measure_tree(
         line_break,
@@ -100,7 +93,7 @@ pub fn measure_tree(
 
 // Reads the items of a whole text into words, four an item. The first value is how many items there are.
 pub fn read_items(text: &[u8], words: &mut [u64], values: &mut Values) -> u32
-    ensures told { λ r. ⌜ Tells (readItems (now (text .entry)) (now (words .entry)) .answer) r (now (values .exit)) ⌝ }
+    ensures answer { λ r. ⌜ Reports (readItems (now (text .entry)) (now (words .entry)) .answer) r (now (values .exit)) ⌝ }
     ensures words { λ r. ⌜ now (words .exit) ≡ readItems (now (text .entry)) (now (words .entry)) .words ⌝ }
 {
     sise_read_items(text, words, values)
@@ -115,7 +108,7 @@ pub fn write_calls(
     buf: &mut [u8],
     answers: &mut [u64],
 ) -> u64
-    ensures { λ r. ⌜ Writes (writing (style (now («line_break» .entry)) (now (indentation .entry))) (now (buf .entry)) (callsOf (now (words .entry)) (now (atoms .entry)) (length (now (answers .entry))))) (now (answers .entry)) r (now (buf .exit)) (now (answers .exit)) ⌝ }
+    ensures { λ r. ⌜ WritesCalls (style (now («line_break» .entry)) (now (indentation .entry))) (now (words .entry)) (now (atoms .entry)) (now (buf .entry)) (now (answers .entry)) r (now (buf .exit)) (now (answers .exit)) ⌝ }
 {
     sise_write_calls(words, atoms, line_break, indentation, buf, answers)
 }

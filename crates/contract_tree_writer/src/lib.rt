@@ -7,11 +7,11 @@ ghost use mathlib.Core.Path.{_≡_};
 ghost use mathlib.Core.List.{List};
 ghost use Prim.Native.Nat.{ℕ};
 ghost use lib.ListN.{length};
-ghost use Rattle.sise_serializer.specs.Serializer.{style, freshSerializer};
+ghost use Rattle.sise_serializer.specs.Serializer.{style};
 ghost use Rattle.sise_tree.specs.Answers.{numberOf};
 ghost use Rattle.sise_tree_writer.specs.Answers.{putAs};
-ghost use Rattle.sise_tree_writer.specs.SerializeTree.{houseTree, serializeTree, writeTree, DoesWrite, DoesMeasure};
-ghost use Rattle.sise_tree_writer.specs.Writing.{textCalls};
+ghost use Rattle.sise_tree_writer.specs.SerializeTree.{houseTree, serializeTree, DoesWrite, DoesMeasure};
+ghost use Rattle.sise_tree_writer.specs.Writing.{writeText};
 
 // ---- serialize.rt
 
@@ -57,7 +57,7 @@ pub fn write_text(
     break_line_at: u64,
     final_break: bool,
 ) -> TreeWrote
-    ensures { λ r. ⌜ DoesWrite (writeTree (style (now («line_break» .entry)) (now (indentation .entry))) (now (buf .entry)) freshSerializer (now (text .entry)) (now (table .entry)) (textCalls (now (text .entry)) «break_line_at» «final_break»)) r (now (buf .exit)) ⌝ }
+    ensures { λ r. ⌜ DoesWrite (writeText (style (now («line_break» .entry)) (now (indentation .entry))) (now (buf .entry)) (now (text .entry)) (now (table .entry)) «break_line_at» «final_break») r (now (buf .exit)) ⌝ }
 {
     sise_tree_writer::write_text(
         line_break,
@@ -80,7 +80,7 @@ pub fn measure_text(
     break_line_at: u64,
     final_break: bool,
 ) -> TreeWrote
-    ensures { λ r. ⌜ ((b : List ℕ) → length b ≡ room → DoesMeasure (writeTree (style (now («line_break» .entry)) (now (indentation .entry))) b freshSerializer (now (text .entry)) (now (table .entry)) (textCalls (now (text .entry)) «break_line_at» «final_break»)) r) ⌝ }
+    ensures { λ r. ⌜ ((b : List ℕ) → length b ≡ room → DoesMeasure (writeText (style (now («line_break» .entry)) (now (indentation .entry))) b (now (text .entry)) (now (table .entry)) «break_line_at» «final_break») r) ⌝ }
 {
     sise_tree_writer::measure_text(
         line_break,
