@@ -6,14 +6,20 @@ use mathlib.Core.Path.{_≡_, refl, sym, ap, _∙_}
 use mathlib.Core.Bool.{true}
 use mathlib.Core.List.{List}
 use lib.ListN.{length, take}
+use Rattle.sise_parser.specs.Reader as reader
+use Rattle.sise_parser.specs.Reader.{freshReader}
+use Rattle.sise_parser.specs.Readings.{Read}
+use Rattle.sise_parser.specs.declared.reader.Reader.{Reader}
+use Rattle.sise_parser.proofs.Readings.{read-answers, read-record}
 use Rattle.sise_serializer.specs.Serializer.{Style, Answer, isSound, freshSerializer}
 use Rattle.sise_serializer.specs.declared.serializer.Phase.the-variants.{Done}
 use Rattle.sise_serializer.specs.declared.serializer.Serializer.{Serializer}
-use Rattle.sise_serializer.specs.Calls.{isAccepted, Call, finishCall, Item, itemsOf, Run, run, writing}
+use Rattle.sise_serializer.specs.Calls.{isAccepted, Call, finishCall, Item, Placed, itemsOf, Run, run, writing}
 use Rattle.sise_serializer.proofs.Kept.{fresh-sound, sound-kept}
 use Rattle.sise_layout.specs.Texts.{FinishAccepted, here, later, Blank}
 use Rattle.sise_layout.specs.Made as made
 use Rattle.sise_layout.specs.Made.{Made, none, more, MadeWriting, itemsBy}
+use Rattle.sise_layout.specs.Reading.{Gives, Got}
 use Rattle.sise_layout.specs.Rules.{writes}
 use Rattle.sise_layout.specs.Claim.{HasItems}
 use Rattle.sise_layout.proofs.Ended.{finished-done, all-late}
@@ -54,6 +60,15 @@ module _ {s : Style} {first now : List ℕ} {cs : List Call} {f : Serializer} {l
 
   pub made-holds : Blank s → HasItems s (take (f .position) now) f (itemsBy cs l) (itemsOf (itemsBy cs l))
   made-holds blank = rw is-run at (one-writing s first cs (rw is-run (made-accepts m)) blank)
+
+-- reading by calls made one by one too
+module _ {text : List ℕ} {items : List Placed} (g : Gives text items) where
+  pub read-items : {l : List reader.Answer} {v : Reader} → Read text freshReader l v → Got text items l v
+  read-items {l} m = record {
+    answers = read-answers m ∙ g .answers (length l);
+    early = λ h. rw (read-record m) (g .early (length l) h);
+    finished = λ h. rw (read-record m) (g .finished (length l) h);
+  }
 
 -- two programs that made their calls one by one, each with its own style, buffer and calls: if both wrote these items, each text is the buffer up to the position
 -- of the record that the accepted finish returned, and reading it gives these items
