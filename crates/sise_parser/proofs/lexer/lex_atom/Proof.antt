@@ -52,7 +52,7 @@ lex-atom-spec =
     })
     (λ c. search needs)  -- add-lex-string
     (λ c κs. search needs)  -- lex-string-requires
-    (λ c. search needs)  -- enum-told-end
+    (λ c. search needs)  -- enum-known-end
     -- loop-less-2
     (λ c. let e = known (c .before .before .before .lex-string .ensures) (c .before .end .given .1) in omega (arith, e .after))
     -- loop-again-2
@@ -63,7 +63,7 @@ lex-atom-spec =
       within = omega (arith, e .after);
       same = c .before .before .before .before .before .before .before .before .before .loop .inv .same ∙ plain-string _ _ (c .before .before .before .before .before .before .before .before .if1 .left) _ (c .before .before .before .before .if3 .taken) ∙ e .same _;
     })
-    (λ c. search needs)  -- enum-told-wrong
+    (λ c. search needs)  -- enum-known-wrong
     -- returns-2
     (λ c.
     let e = known (c .before .before .before .lex-string .ensures) (c .before .wrong .given .1) in

@@ -23,9 +23,9 @@ item-ahead-spec =
     -- returns-2
     (λ c. c .refused2 .ensures ∙ next-finishing (c .before .before .before .before .before .before .args .text .now) _ (sym (c .before .before .before .before .is-sound .ensures) ∙ not-false _ (c .before .before .before .if1 .left)) (c .before .enum-told .given .1))
     (λ c κs. search needs)  -- get-token-requires
-    (λ c. search needs)  -- enum-told-wrong
+    (λ c. search needs)  -- enum-known-wrong
     (λ c κs. search needs)  -- refused-requires-3
-    (λ c. search needs)  -- enum-told-token
+    (λ c. search needs)  -- enum-known-token
     (λ c. search needs)  -- enum-told-2
     (λ c κs. search needs)  -- first-item-requires
     -- inner-item-requires

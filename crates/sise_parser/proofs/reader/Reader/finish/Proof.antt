@@ -47,8 +47,8 @@ finish-spec =
     (λ c. search needs)  -- enum-told
     (λ c. finish-early (c .before .before .before .before .args .text .now) (c .before .before .before .before .args .self) (sym (c .before .before .is-sound .ensures) ∙ not-false _ (c .before .if1 .left)) (c .match .keys2))  -- returns-2
     (λ c κs. search needs)  -- get-token-requires
-    (λ c. search needs)  -- enum-told-wrong
-    (λ c. search needs)  -- enum-told-token
+    (λ c. search needs)  -- enum-known-wrong
+    (λ c. search needs)  -- enum-known-token
     (λ c. search needs)  -- enum-told-2
     -- returns-3
     (λ c. finish-token (c .before .before .before .before .before .before .before .before .before .args .text .now) (c .before .before .before .before .before .before .before .before .before .args .self) (sym (c .before .before .before .before .before .before .before .is-sound .ensures) ∙ not-false _ (c .before .before .before .before .before .before .if1 .left)) (c .before .before .before .before .enum-told .given .1) (ap lexedAs (sym (c .before .wrong .given .1)) ∙ c .before .before .before .get-token .ensures))
