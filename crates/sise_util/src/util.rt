@@ -1,39 +1,47 @@
 // The characters of atoms and strings, and the check of an atom.
 ghost use mathlib.Core.Path.{_≡_};
-ghost use Rattle.sise_util.specs.Chars.{isAtomChr, isStringChr, isEscapedChr};
+ghost use Rattle.sise_util.specs.Chars.{oneOf, marks, isAtomChr, isStringChr, isEscapedChr};
 ghost use Prim.Native.Nat.{_<_};
 ghost use lib.ListN.{drop};
 ghost use Rattle.sise_util.specs.Atom.{inside, isAtom, isPlain, isAtomPrefix};
 ghost use Rattle.sise_util.specs.Parts.{afterString, maskOf};
 
-// Whether `chr` is an atom character outside a string. Most are small letters, so these come first: in one `match` the compiler would test them last.
+// Whether `chr` is an atom character that is no letter and no digit.
+fn is_mark(chr: u8) -> bool
+    ensures { λ r. ⌜ r ≡ oneOf marks chr ⌝ }
+{
+    match chr {
+        b'!'
+        | b'#'
+        | b'$'
+        | b'%'
+        | b'&'
+        | b'*'
+        | b'+'
+        | b'-'
+        | b'.'
+        | b'/'
+        | b':'
+        | b'<'
+        | b'='
+        | b'>'
+        | b'?'
+        | b'@'
+        | b'_'
+        | b'~' => true,
+        _ => false,
+    }
+}
+
+// Whether `chr` is an atom character outside a string. Small letters come first and marks last: the compiler tests the values of one `match` from below.
 pub fn is_atom_chr(chr: u8) -> bool
     ensures { λ r. ⌜ r ≡ isAtomChr chr ⌝ }
 {
     match chr {
         b'a'..=b'z' => true,
         _ => match chr {
-            b'!'
-            | b'#'
-            | b'$'
-            | b'%'
-            | b'&'
-            | b'*'
-            | b'+'
-            | b'-'
-            | b'.'
-            | b'/'
-            | b'0'..=b'9'
-            | b':'
-            | b'<'
-            | b'='
-            | b'>'
-            | b'?'
-            | b'@'
-            | b'A'..=b'Z'
-            | b'_'
-            | b'~' => true,
-            _ => false,
+            b'0'..=b'9' | b'A'..=b'Z' => true,
+            _ => is_mark(chr),
         },
     }
 }
