@@ -35,7 +35,7 @@ phaseOf Writing = at.Parsing
 phaseOf Finished = at.Finishing
 phaseOf Done = at.Finishing
 
--- the open lists are as many as the phase tells, and each has its byte
+-- the open lists are as many as the phase says, and each has its byte
 pub record Aligned (w : Serializer) : Type 0 where
   pub fit : listsFit (w .phase) (w .lists) ≡ true
   pub small : w .lists ≤ w .position
