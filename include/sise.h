@@ -4,9 +4,11 @@
  *     rt staticlib sise_c                                        writes target/staticlib/libsise_c.a (Linux on x86-64)
  *     cc -I include program.c target/staticlib/libsise_c.a       links it; it needs no other library
  *
- * A text is bytes. Each call does a whole job: it checks an atom, reads a text into a table, finds a node in a table, writes
- * or measures a table's tree as a text, reads a text's items into words, or runs a list of writer calls. examples/c is a small
- * program that uses them.
+ * A text is bytes: one node, which is an atom or a list of nodes, as in (stage (x -12.5 "a b")). Space, tab, LF and CR may stand
+ * between them, and so may a comment, from `;` to the line's end. Each call does a whole job: it checks an atom, reads a text
+ * into a table, finds a node in a table, writes or measures a table's tree as a text, reads a text's items into words, or runs
+ * a list of writer calls. examples/c/show.c is a small program over them; examples/c/calls.c makes each call with all that it
+ * takes and prints all that it gives.
  *
  * Memory. The caller owns all memory and lends it for the time of the call: no call allocates, keeps a pointer, has a state
  * of its own, recurses, or touches a byte outside of what it was lent. Lent memory crosses as a pointer and a number of
@@ -15,10 +17,11 @@
  *   - What the call writes (a pointer that is not to const) overlaps nothing else that the same call is lent.
  *   - No other thread writes what is lent while the call runs, or reads what the call writes.
  *
- * Results. A call that returns uint32_t returns 0, or a refusal's number (below); then nothing was written but `values`.
- * `values` are two words, which a call that takes them always writes: the answer and 0; of a refusal in the text (1 to 8) its
- * place, which is a byte's offset from 0, and the code point found there (1 to 3, else 0); of any other refusal 0 and 0.
- * Where a call has several reasons to refuse, it gives the first in the order that is said of it.
+ * Results. A call that returns uint32_t returns 0, or a refusal's number (below); of a refusal nothing is written but `values`.
+ * `values` are two words, which a call that takes them always writes. Where it is not refused, values[0] is what it answers and
+ * values[1] is 0. Of a refusal in the text (1 to 8), values[0] is the place, a byte's offset from 0, and values[1] the code
+ * point found there (of 1 to 3, else 0). Of any other refusal both are 0. Where a call has several reasons to refuse, it gives
+ * the first in the order that is said of it.
  *
  * Tables. A tree is held in a table of 32-bit words, four a node, a list's children after it in order:
  *     an atom:  1, place of its first byte in the text, number of bytes, 1
@@ -74,7 +77,8 @@ enum sise_refusal {
 };
 
 /*
- * Whether the bytes are an atom: one or more of letters, digits, ! # $ % & * + - . / : < = > ? @ _ ~ and strings in ".
+ * Whether the bytes are an atom: one or more of letters, digits, ! # $ % & * + - . / : < = > ? @ _ ~ and strings. A string
+ * stands between two `"`: bytes from space to `~`, where a `\` takes the byte behind it along, and a `"` stands only so.
  * Refused: 17.
  */
 uint32_t sise_check_atom(const uint8_t *atom, size_t atom_len);
@@ -88,7 +92,7 @@ uint32_t sise_parse_tree(const uint8_t *text, size_t text_len, uint32_t *table, 
 
 /*
  * Finds the node that a path leads to from the table's first node, each step a child's number from 0. Answers the node's
- * index i: its words are table[4 * i] to table[4 * i + 3]. No step leads to node 0.
+ * index i: its words are table[4 * i] to table[4 * i + 3]. A path of no steps leads to node 0, the first.
  * Refused: 13; 15; 16, if a list has too few children, or a step goes into an atom.
  */
 uint32_t sise_index_path(const uint32_t *table, size_t table_len, const uint8_t *text, size_t text_len, const uint64_t *path,
@@ -137,8 +141,9 @@ uint32_t sise_read_items(const uint8_t *text, size_t text_len, uint64_t *words, 
  *     2, 0, 0, 0                     end_list
  *     3 or 4, 0, 0, 0                finish: without, or with a line_break behind the text
  * (a word that is shown as 0 is not looked at). A threshold is one call's break_line_at. It stops at a first word above 4, at
- * a rest of fewer than four words, and where no answer word is left. Call k writes answers[k]: the offset of what it wrote, or
- * 2^32 and the number of its refusal, which leaves buffer and position as they were; the next call runs all the same.
+ * a rest of fewer than four words, and where no answer word is left. Call k, counted from 0, writes answers[k]: the
+ * offset of what it wrote, or 2^32 plus the number of its refusal, which leaves the buffer as it was; the next call runs all the
+ * same.
  * Refused: put_atom 17, 19, 22; begin_list 19, 21, 22; end_list 18 or 19, 22; finish 20 or 19, 22.
  */
 uint64_t sise_write_calls(const uint64_t *words, size_t words_len, const uint8_t *atoms, size_t atoms_len,

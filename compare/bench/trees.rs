@@ -35,7 +35,7 @@ impl<'a> Trees<'a> {
     pub fn parse_by_library(&mut self) -> u64 {
         let (text, table) = (self.text, &mut self.table);
         // Here and below, what is lent outlives the call, and nobody else borrows what it writes.
-        told(|values| unsafe {
+        answered(|values| unsafe {
             sise_parse_tree(
                 text.as_ptr(),
                 text.len(),
@@ -51,7 +51,7 @@ impl<'a> Trees<'a> {
     }
 
     pub fn write_by_library(&mut self, threshold: usize) -> u64 {
-        told(|values| unsafe {
+        answered(|values| unsafe {
             sise_serialize_tree(
                 STYLE.line_break.as_ptr(),
                 STYLE.line_break.len(),
@@ -87,7 +87,7 @@ impl<'a> Trees<'a> {
 
     pub fn index_by_library(&self, path: &[u64]) -> u64 {
         let (table, text) = (&self.table, self.text);
-        told(|values| unsafe {
+        answered(|values| unsafe {
             sise_index_path(
                 table.as_ptr(),
                 table.len(),
@@ -106,7 +106,7 @@ impl<'a> Trees<'a> {
 }
 
 /// What a call answers that is not refused.
-fn told(call: impl FnOnce(*mut u64) -> u32) -> u64 {
+fn answered(call: impl FnOnce(*mut u64) -> u32) -> u64 {
     let mut values = [0; 2];
     assert_eq!(call(values.as_mut_ptr()), 0);
     values[0]

@@ -1,4 +1,4 @@
-//! Answers: a number, or 2^32 and the number of a refusal; and what they are told by.
+//! Answers: a number, or 2^32 and the number of a refusal; and what a call reports.
 
 use crate::guard::Edge;
 
@@ -13,14 +13,14 @@ pub fn refusal(answer: u64) -> Option<u64> {
     answer.checked_sub(REFUSED)
 }
 
-/// What a call told: 0 or the number of a refusal, and its two values.
+/// What a call reports: 0 or the number of a refusal, and its two values.
 #[derive(PartialEq)]
-pub struct Told {
+pub struct Reported {
     pub number: u32,
     pub values: [u64; 2],
 }
 
-impl Told {
+impl Reported {
     /// The answer, or the refusal of a call over a text of so many bytes, with the values that belong to it.
     pub fn answer(&self, text_len: usize) -> Check<u64> {
         let [first, second] = self.values;

@@ -1,6 +1,6 @@
 //! The exported calls, each on copies of its slices in guarded memory.
 
-use crate::answers::Told;
+use crate::answers::Reported;
 use crate::exported::{
     sise_check_atom, sise_count_items, sise_index_path, sise_measure_tree, sise_parse_tree,
     sise_read_items, sise_serialize_tree, sise_write_calls, sise_write_calls_singly,
@@ -44,11 +44,11 @@ pub struct Calls {
     values: Region,
 }
 
-/// Two words that no call tells.
+/// Two words that no call reports.
 const BEFORE: [u64; 2] = [u64::MAX; 2];
 
-fn told(number: u32, values: &[u64]) -> Told {
-    Told {
+fn reported(number: u32, values: &[u64]) -> Reported {
+    Reported {
         number,
         values: values.try_into().expect("two words were lent"),
     }
@@ -84,7 +84,7 @@ impl Calls {
     }
 
     /// The answer, and the table after the call.
-    pub fn parse_tree(&mut self, text: &[u8], table: &[u32], edge: Edge) -> (Told, Vec<u32>) {
+    pub fn parse_tree(&mut self, text: &[u8], table: &[u32], edge: Edge) -> (Reported, Vec<u32>) {
         self.made += 1;
         let text = self.text.lend(text, edge);
         let table = self.filled.lend(table, edge);
@@ -98,10 +98,10 @@ impl Calls {
                 values.first(),
             )
         };
-        (told(number, &values.values()), table.values())
+        (reported(number, &values.values()), table.values())
     }
 
-    pub fn index_path(&mut self, text: &[u8], table: &[u32], path: &[u64], edge: Edge) -> Told {
+    pub fn index_path(&mut self, text: &[u8], table: &[u32], path: &[u64], edge: Edge) -> Reported {
         self.made += 1;
         let text = self.text.lend(text, edge);
         let table = self.table.lend(table, edge);
@@ -118,7 +118,7 @@ impl Calls {
                 values.first(),
             )
         };
-        told(number, &values.values())
+        reported(number, &values.values())
     }
 
     /// The answer, and the buffer after the call.
@@ -131,7 +131,7 @@ impl Calls {
         break_line_at: u64,
         final_break: bool,
         edge: Edge,
-    ) -> (Told, Vec<u8>) {
+    ) -> (Reported, Vec<u8>) {
         self.made += 1;
         let line_break = self.line_break.lend(&style.line_break, edge);
         let indentation = self.indentation.lend(&style.indentation, edge);
@@ -156,7 +156,7 @@ impl Calls {
                 values.first(),
             )
         };
-        (told(number, &values.values()), buffer.values())
+        (reported(number, &values.values()), buffer.values())
     }
 
     pub fn measure_tree(
@@ -167,7 +167,7 @@ impl Calls {
         break_line_at: u64,
         final_break: bool,
         edge: Edge,
-    ) -> Told {
+    ) -> Reported {
         self.made += 1;
         let line_break = self.line_break.lend(&style.line_break, edge);
         let indentation = self.indentation.lend(&style.indentation, edge);
@@ -189,11 +189,11 @@ impl Calls {
                 values.first(),
             )
         };
-        told(number, &values.values())
+        reported(number, &values.values())
     }
 
     /// The answer, and the words after the call.
-    pub fn read_items(&mut self, text: &[u8], words: &[u64], edge: Edge) -> (Told, Vec<u64>) {
+    pub fn read_items(&mut self, text: &[u8], words: &[u64], edge: Edge) -> (Reported, Vec<u64>) {
         self.made += 1;
         let text = self.text.lend(text, edge);
         let words = self.answers.lend(words, edge);
@@ -207,7 +207,7 @@ impl Calls {
                 values.first(),
             )
         };
-        (told(number, &values.values()), words.values())
+        (reported(number, &values.values()), words.values())
     }
 
     /// All calls in one, or each by the writer's method of its own.

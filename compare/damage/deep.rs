@@ -36,9 +36,9 @@ fn on_small_stack() -> Check<u64> {
 
 /// Lists that are never closed.
 fn unfinished(calls: &mut Calls) -> Check {
-    let (told, _) = calls.parse_tree(&b"(".repeat(LONGEST), &[], Edge::End);
+    let (reported, _) = calls.parse_tree(&b"(".repeat(LONGEST), &[], Edge::End);
     ensure(
-        told.answer(LONGEST)? == refused(5),
+        reported.answer(LONGEST)? == refused(5),
         "parse_tree: 5 for lists that are never closed",
     )?;
     let count = calls.count_items(&b"(".repeat(LONGEST), Edge::End);
@@ -56,9 +56,9 @@ fn parsed(calls: &mut Calls, text: &[u8]) -> Check<Vec<u32>> {
         short.answer(text.len())? == refused(14) && same == before[1..],
         "parse_tree: deep lists, one word short",
     )?;
-    let (told, table) = calls.parse_tree(text, &before, Edge::End);
+    let (reported, table) = calls.parse_tree(text, &before, Edge::End);
     ensure(
-        told.answer(text.len())? == LISTS as u64,
+        reported.answer(text.len())? == LISTS as u64,
         "parse_tree: deep lists",
     )?;
     let good = table.chunks(4).enumerate().all(|(node, words)| {
@@ -77,9 +77,9 @@ fn indexed(calls: &mut Calls, text: &[u8], table: &[u32]) -> Check {
         (LISTS - 1, LISTS as u64 - 1),
         (LISTS, refused(16)),
     ] {
-        let told = calls.index_path(text, table, &path[..steps], Edge::End);
+        let reported = calls.index_path(text, table, &path[..steps], Edge::End);
         ensure(
-            told.answer(text.len())? == expected,
+            reported.answer(text.len())? == expected,
             "index_path: deep lists",
         )?;
     }

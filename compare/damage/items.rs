@@ -27,8 +27,8 @@ pub fn check(calls: &mut Calls, text: &[u8], parsed: u64, count: u64) -> Check {
 
 /// One call, and what holds after it.
 fn read(calls: &mut Calls, text: &[u8], before: &[u64]) -> Check<(u64, Vec<u64>)> {
-    let (told, after) = twice(|edge| calls.read_items(text, before, edge))?;
-    let answer = told.answer(text.len())?;
+    let (reported, after) = twice(|edge| calls.read_items(text, before, edge))?;
+    let answer = reported.answer(text.len())?;
     let written = if refusal(answer).is_some() {
         0
     } else {

@@ -63,8 +63,8 @@ fn exact(calls: &mut Calls, text: &[u8], tree: &[u32]) -> Check {
 
 /// One call, and what holds after it.
 fn parsed(calls: &mut Calls, text: &[u8], before: &[u32]) -> Check<(u64, Vec<u32>)> {
-    let (told, after) = twice(|edge| calls.parse_tree(text, before, edge))?;
-    let answer = told.answer(text.len())?;
+    let (reported, after) = twice(|edge| calls.parse_tree(text, before, edge))?;
+    let answer = reported.answer(text.len())?;
     if let Some(number) = refusal(answer) {
         ensure(
             number == 14 || OF_TEXT.contains(&number),

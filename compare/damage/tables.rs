@@ -22,9 +22,9 @@ pub fn table(random: &mut Random, calls: &mut Calls, text: &[u8]) -> Vec<u32> {
 
 /// The text's own table; the words that no node filled are 0.
 fn good(calls: &mut Calls, text: &[u8]) -> Vec<u32> {
-    let (told, mut table) = calls.parse_tree(text, &vec![0; 4 * text.len()], Edge::End);
-    if told.number == 0 {
-        table.truncate(4 * told.values[0] as usize);
+    let (reported, mut table) = calls.parse_tree(text, &vec![0; 4 * text.len()], Edge::End);
+    if reported.number == 0 {
+        table.truncate(4 * reported.values[0] as usize);
     }
     table
 }

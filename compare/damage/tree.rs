@@ -42,9 +42,9 @@ impl Tree {
             } else {
                 refused(15)
             };
-            let told = twice(|edge| calls.index_path(&self.text, &self.table, path, edge))?;
+            let reported = twice(|edge| calls.index_path(&self.text, &self.table, path, edge))?;
             ensure(
-                told.answer(self.text.len())? == expected,
+                reported.answer(self.text.len())? == expected,
                 "index_path: the node, 15 or 16",
             )?;
         }
@@ -56,8 +56,8 @@ impl Tree {
             text, table, style, ..
         } = self;
         let (threshold, last) = (self.break_line_at, self.final_break);
-        let told = twice(|edge| calls.measure_tree(style, text, table, threshold, last, edge))?;
-        told.answer(text.len())
+        let reported = twice(|edge| calls.measure_tree(style, text, table, threshold, last, edge))?;
+        reported.answer(text.len())
     }
 
     /// A buffer that is exactly full, and one a byte shorter.
@@ -76,9 +76,9 @@ impl Tree {
             text, table, style, ..
         } = self;
         let (threshold, last) = (self.break_line_at, self.final_break);
-        let (told, after) =
+        let (reported, after) =
             twice(|edge| calls.serialize_tree(style, before, text, table, threshold, last, edge))?;
-        let answer = told.answer(text.len())?;
+        let answer = reported.answer(text.len())?;
         if let Some(number) = refusal(answer) {
             ensure(
                 [15, 17, 21, 22].contains(&number),

@@ -2,7 +2,7 @@
 
 use std::fmt::Write;
 
-/// A case that can be told in lines.
+/// A case that can be described in lines.
 pub trait Described {
     fn describe(&self) -> String;
 }

@@ -107,12 +107,12 @@ pub struct Style<'a> {
 /// Whether the bytes are an atom.
 pub fn check_atom(atom: &[u8]) -> Result<(), Refusal> {
     // Here and below, the slices live as long as the call, which keeps nothing, and what it writes is borrowed by nobody else.
-    told(|_| unsafe { raw::sise_check_atom(atom.as_ptr(), atom.len()) }).map(|_| ())
+    answered(|_| unsafe { raw::sise_check_atom(atom.as_ptr(), atom.len()) }).map(|_| ())
 }
 
 /// Reads a whole text into the table: the number of its nodes. `4 * text.len()` words are always enough.
 pub fn parse_tree(text: &[u8], table: &mut [u32]) -> Result<usize, Refusal> {
-    told(|values| unsafe {
+    answered(|values| unsafe {
         raw::sise_parse_tree(
             text.as_ptr(),
             text.len(),
@@ -125,7 +125,7 @@ pub fn parse_tree(text: &[u8], table: &mut [u32]) -> Result<usize, Refusal> {
 
 /// The index of the node at the end of the path, each step a child's number from 0.
 pub fn index_path(table: &[u32], text: &[u8], path: &[u64]) -> Result<usize, Refusal> {
-    told(|values| unsafe {
+    answered(|values| unsafe {
         raw::sise_index_path(
             table.as_ptr(),
             table.len(),
@@ -147,7 +147,7 @@ pub fn serialize_tree(
     break_line_at: u64,
     final_break: bool,
 ) -> Result<usize, Refusal> {
-    told(|values| unsafe {
+    answered(|values| unsafe {
         raw::sise_serialize_tree(
             style.line_break.as_ptr(),
             style.line_break.len(),
@@ -174,7 +174,7 @@ pub fn measure_tree(
     break_line_at: u64,
     final_break: bool,
 ) -> Result<usize, Refusal> {
-    told(|values| unsafe {
+    answered(|values| unsafe {
         raw::sise_measure_tree(
             style.line_break.as_ptr(),
             style.line_break.len(),
@@ -193,7 +193,7 @@ pub fn measure_tree(
 
 /// Reads the items of a whole text into words, four an item: the number of items. `4 * text.len()` words are always enough.
 pub fn read_items(text: &[u8], words: &mut [u64]) -> Result<usize, Refusal> {
-    told(|values| unsafe {
+    answered(|values| unsafe {
         raw::sise_read_items(
             text.as_ptr(),
             text.len(),
@@ -240,7 +240,7 @@ pub fn answer(word: u64) -> Result<usize, Refusal> {
 }
 
 /// What a call answers in its two values, or its refusal.
-fn told(call: impl FnOnce(*mut [u64; 2]) -> u32) -> Result<usize, Refusal> {
+fn answered(call: impl FnOnce(*mut [u64; 2]) -> u32) -> Result<usize, Refusal> {
     let mut values = [0; 2];
     match call(&mut values) {
         0 => Ok(values[0] as usize),

@@ -6,11 +6,11 @@
 // Rust program compare/, which runs the crate's util.rs and the standard library's UTF-8 decoder (`compare/run characters`).
 ghost use Prim.Native.Nat.{_<_};
 use libc::STDIN_FILENO;
-use libc::STDOUT_FILENO;
+use lines::Block;
 use sise_util::Character;
 use sise_util::classes::class_of;
 
-fn put_answer(out: &mut [u8], at: usize, yes: bool) -> usize {
+fn put_answer(out: &mut Block, at: usize, yes: bool) -> usize {
     if yes {
         lines::put_byte(out, at, b'1')
     } else {
@@ -18,7 +18,7 @@ fn put_answer(out: &mut [u8], at: usize, yes: bool) -> usize {
     }
 }
 
-fn put_character(out: &mut [u8], at: usize, found: Character) -> usize {
+fn put_character(out: &mut Block, at: usize, found: Character) -> usize {
     let next = lines::put_byte(out, at, b' ');
     match found {
         Character::Well { code, len } => {
@@ -30,8 +30,8 @@ fn put_character(out: &mut [u8], at: usize, found: Character) -> usize {
     }
 }
 
-fn put_byte_line(out: &mut [u8], chr: u8) -> usize {
-    let at = lines::put_decimal(out, 0, chr as u64);
+fn put_byte_line(out: &mut Block, at: usize, chr: u8) -> usize {
+    let at = lines::put_decimal(out, at, chr as u64);
     let at = lines::put_byte(out, at, b' ');
     let at = lines::put_decimal(out, at, class_of(chr) as u64);
     let at = lines::put_byte(out, at, b' ');
@@ -41,7 +41,7 @@ fn put_byte_line(out: &mut [u8], chr: u8) -> usize {
 }
 
 // What check_atom_prefix says of each length, one past the case last.
-fn put_prefixes(out: &mut [u8], from: usize, case: &[u8]) -> usize {
+fn put_prefixes(out: &mut Block, from: usize, case: &[u8]) -> usize {
     let mut at = from;
     let mut len = 0;
     while len <= case.len() {
@@ -52,7 +52,7 @@ fn put_prefixes(out: &mut [u8], from: usize, case: &[u8]) -> usize {
 }
 
 // The character at each place, one past the case last.
-fn put_characters(out: &mut [u8], from: usize, case: &[u8]) -> usize {
+fn put_characters(out: &mut Block, from: usize, case: &[u8]) -> usize {
     let mut at = from;
     let mut place = 0;
     while place <= case.len() {
@@ -62,8 +62,8 @@ fn put_characters(out: &mut [u8], from: usize, case: &[u8]) -> usize {
     put_character(out, at, sise_util::character_at(case, place))
 }
 
-fn put_case_line(out: &mut [u8], case: &[u8]) -> usize {
-    let at = put_answer(out, 0, sise_util::check_atom(case));
+fn put_case_line(out: &mut Block, at: usize, case: &[u8]) -> usize {
+    let at = put_answer(out, at, sise_util::check_atom(case));
     let at = lines::put_byte(out, at, b' ');
     let at = put_prefixes(out, at, case);
     let at = put_characters(out, at, case);
@@ -71,11 +71,11 @@ fn put_case_line(out: &mut [u8], case: &[u8]) -> usize {
 }
 
 // The same of a case that is the first `len` bytes.
-fn put_case_part(out: &mut [u8], bytes: &[u8], len: usize) -> usize {
+fn put_case_part(out: &mut Block, at: usize, bytes: &[u8], len: usize) -> usize {
     if bytes.len() < len {
-        return 0;
+        return at;
     }
-    put_case_line(out, &bytes[..len])
+    put_case_line(out, at, &bytes[..len])
 }
 
 fn digit_value(digit: u8) -> u8
@@ -108,55 +108,47 @@ fn read_hexadecimal(line: &[u8]) -> Case {
     Case { bytes, len }
 }
 
-// Writes the first n bytes.
-fn write(out: &[u8], n: usize) {
-    if n <= out.len() {
-        io::write_all(STDOUT_FILENO, &out[..n]);
-    }
-}
-
-fn run_case(line: &[u8]) {
-    let mut out = io::buffer();
+fn run_case(out: &mut Block, at: usize, line: &[u8]) -> usize {
     if line.len() == 0 || line[0] != b'x' {
-        let n = put_case_line(&mut out, line);
-        write(&out, n);
-    } else {
-        let case = read_hexadecimal(line);
-        let bytes = case.bytes;
-        let n = put_case_part(&mut out, &bytes, case.len);
-        write(&out, n);
+        return put_case_line(out, at, line);
     }
+    let case = read_hexadecimal(line);
+    let bytes = case.bytes;
+    put_case_part(out, at, &bytes, case.len)
 }
 
 // Runs each line that ends in the text.
-fn run_cases(text: &[u8]) {
+fn run_cases(out: &mut Block, from: usize, text: &[u8]) -> usize {
+    let mut at = from;
     let mut start = 0;
-    let mut at = 0;
-    while at < text.len() {
-        if text[at] == b'\n' {
-            run_case(&text[start..at]);
-            start = at + 1;
+    let mut end = 0;
+    while end < text.len() {
+        if text[end] == b'\n' {
+            at = run_case(out, at, &text[start..end]);
+            start = end + 1;
         }
-        at += 1;
+        end += 1;
     }
+    at
 }
 
-fn run_bytes() {
-    let mut out = io::buffer();
+fn run_bytes(out: &mut Block, from: usize) -> usize {
+    let mut at = from;
     let mut chr: u8 = 0;
     loop {
-        let n = put_byte_line(&mut out, chr);
-        write(&out, n);
+        at = put_byte_line(out, at, chr);
         if chr == 255 {
-            return;
+            return at;
         }
         chr += 1;
     }
 }
 
 fn main() {
-    run_bytes();
+    let mut out = io::buffer();
+    let at = run_bytes(&mut out, 0);
     let mut text = io::buffer();
     let n = io::read_full(STDIN_FILENO, &mut text);
-    run_cases(&text[..n]);
+    let at = run_cases(&mut out, at, &text[..n]);
+    lines::flush(&out, at);
 }

@@ -1,6 +1,7 @@
 // Rows of the table of refusals.
 use crate::line::put_refused;
 use crate::line::put_value;
+use lines::Block;
 use sise_parser::Answer;
 use sise_parser::Next;
 use sise_parser::Phase;
@@ -12,28 +13,28 @@ use sise_tree::ParsedTree;
 use sise_tree::index_path;
 use sise_tree::parse_tree;
 
-pub(crate) fn put_put(out: &mut [u8], at: usize, name: &[u8], answer: Put) -> usize {
+pub(crate) fn put_put(out: &mut Block, at: usize, name: &[u8], answer: Put) -> usize {
     match answer {
         Put::At(offset) => put_value(out, at, name, offset),
         _ => put_refused(out, at, name, answer.number(), 0),
     }
 }
 
-pub(crate) fn put_parsed(out: &mut [u8], at: usize, name: &[u8], answer: ParsedTree) -> usize {
+pub(crate) fn put_parsed(out: &mut Block, at: usize, name: &[u8], answer: ParsedTree) -> usize {
     match answer {
         ParsedTree::Nodes(nodes) => put_value(out, at, name, nodes),
         _ => put_refused(out, at, name, answer.number(), answer.place()),
     }
 }
 
-pub(crate) fn put_indexed(out: &mut [u8], at: usize, name: &[u8], answer: Indexed) -> usize {
+pub(crate) fn put_indexed(out: &mut Block, at: usize, name: &[u8], answer: Indexed) -> usize {
     match answer {
         Indexed::Node(index) => put_value(out, at, name, index),
         _ => put_refused(out, at, name, answer.number(), 0),
     }
 }
 
-fn put_next(out: &mut [u8], at: usize, name: &[u8], answer: Answer) -> usize {
+fn put_next(out: &mut Block, at: usize, name: &[u8], answer: Answer) -> usize {
     match answer {
         Answer::Item(_) => put_value(out, at, name, 0),
         Answer::Refused(error) => put_refused(out, at, name, error.number(), error.place()),
@@ -41,7 +42,7 @@ fn put_next(out: &mut [u8], at: usize, name: &[u8], answer: Answer) -> usize {
 }
 
 // Position 3 in a text of one byte.
-fn unsound(out: &mut [u8], at: usize) -> usize {
+fn unsound(out: &mut Block, at: usize) -> usize {
     let reader = Reader {
         position: 3,
         phase: Phase::Beginning,
@@ -52,26 +53,26 @@ fn unsound(out: &mut [u8], at: usize) -> usize {
 }
 
 // A list that closes where a node is due.
-fn closed(out: &mut [u8], at: usize) -> usize {
+fn closed(out: &mut Block, at: usize) -> usize {
     let mut table = [0u32; 4];
     let reader = Reader::new().next_item(b"()").reader;
     let answer = parse_tree(b"()", reader, &mut table).answer;
     put_parsed(out, at, b"row 12", answer)
 }
 
-fn table_full(out: &mut [u8], at: usize) -> usize {
+fn table_full(out: &mut Block, at: usize) -> usize {
     let mut table = [0u32; 3];
     let answer = parse_tree(b"a", Reader::new(), &mut table).answer;
     put_parsed(out, at, b"row 14", answer)
 }
 
 // A first word that no node has.
-fn no_tree(out: &mut [u8], at: usize) -> usize {
+fn no_tree(out: &mut Block, at: usize) -> usize {
     let table = [2u32, 0, 1, 1];
     put_indexed(out, at, b"row 15", index_path(&table, b"a", &[]))
 }
 
-fn not_finished(out: &mut [u8], at: usize) -> usize {
+fn not_finished(out: &mut Block, at: usize) -> usize {
     let mut buf = [0u8; 1];
     let answer = Serializer::new()
         .finish(b"\n", b"  ", &mut buf, true)
@@ -94,7 +95,7 @@ fn nested(lists: usize) -> Put {
     answer
 }
 
-fn no_room(out: &mut [u8], at: usize) -> usize {
+fn no_room(out: &mut Block, at: usize) -> usize {
     let mut buf = [0u8; 1];
     let answer = Serializer::new()
         .put_atom(b"\n", b"  ", &mut buf, b"ab", 0)
@@ -102,7 +103,7 @@ fn no_room(out: &mut [u8], at: usize) -> usize {
     put_put(out, at, b"row 22", answer)
 }
 
-pub(crate) fn put_rows(out: &mut [u8], at: usize) -> usize {
+pub(crate) fn put_rows(out: &mut Block, at: usize) -> usize {
     let at = unsound(out, at);
     let at = closed(out, at);
     let at = table_full(out, at);

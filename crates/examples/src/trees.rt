@@ -3,6 +3,7 @@ use crate::line::put_text;
 use crate::line::put_word;
 use crate::rows::put_indexed;
 use crate::rows::put_parsed;
+use lines::Block;
 use sise_parser::Reader;
 use sise_serializer::Serializer;
 use sise_tree::index_path;
@@ -11,7 +12,7 @@ use sise_tree_writer::serialize_house;
 use sise_tree_writer::serialize_tree;
 
 // The table's words, four a line.
-fn put_words(out: &mut [u8], from: usize, table: &[u32]) -> usize {
+fn put_words(out: &mut Block, from: usize, table: &[u32]) -> usize {
     let mut at = from;
     let mut i = 0;
     while i < table.len() {
@@ -22,7 +23,7 @@ fn put_words(out: &mut [u8], from: usize, table: &[u32]) -> usize {
     at
 }
 
-fn put_paths(out: &mut [u8], at: usize, text: &[u8], table: &[u32]) -> usize {
+fn put_paths(out: &mut Block, at: usize, text: &[u8], table: &[u32]) -> usize {
     let at = put_indexed(out, at, b"no path", index_path(table, text, &[]));
     let at = put_indexed(out, at, b"path 1 1", index_path(table, text, &[1, 1]));
     let at = put_indexed(out, at, b"path 3", index_path(table, text, &[3]));
@@ -30,7 +31,7 @@ fn put_paths(out: &mut [u8], at: usize, text: &[u8], table: &[u32]) -> usize {
 }
 
 // The tree on one line, and in house style.
-fn put_again(out: &mut [u8], at: usize, text: &[u8], table: &[u32]) -> usize {
+fn put_again(out: &mut Block, at: usize, text: &[u8], table: &[u32]) -> usize {
     let mut buf = [0u8; 64];
     let largest = 18446744073709551615;
     let line = serialize_tree(
@@ -47,7 +48,7 @@ fn put_again(out: &mut [u8], at: usize, text: &[u8], table: &[u32]) -> usize {
     put_text(out, at, &buf, house.position)
 }
 
-fn put_tree(out: &mut [u8], at: usize, text: &[u8]) -> usize {
+fn put_tree(out: &mut Block, at: usize, text: &[u8]) -> usize {
     let mut table = [7u32; 28];
     let answer = parse_tree(text, Reader::new(), &mut table).answer;
     let at = put_parsed(out, at, b"nodes", answer);
@@ -56,6 +57,6 @@ fn put_tree(out: &mut [u8], at: usize, text: &[u8]) -> usize {
     put_again(out, at, text, &table)
 }
 
-pub(crate) fn put_trees(out: &mut [u8], at: usize) -> usize {
+pub(crate) fn put_trees(out: &mut Block, at: usize) -> usize {
     put_tree(out, at, b"(z (+1 \"a b\") ~)")
 }

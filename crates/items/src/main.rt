@@ -1,7 +1,11 @@
 // Prints the items of the SISE text on standard input, a line each: `L place` where a list starts, `A place length` for an atom, `E place` where a list
 // ends. The last line is `ok`, or, at the first refusal, `refused number place` with document 01's number, and the place 0 where it has none. A text of
 // more than 65,536 bytes gives the one line `long`.
+ghost use mathlib.Core.Path.{_≡_};
+ghost use Rattle.lines.specs.Put.{output, put};
+ghost use Rattle.items.specs.Last.{refusedLine, lastLine};
 use libc::STDIN_FILENO;
+use lines::Block;
 use lines::put_item;
 use lines::put_number;
 use sise_parser::Answer;
@@ -10,17 +14,18 @@ use sise_parser::ParseError;
 use sise_parser::Phase;
 use sise_parser::Reader;
 
-// No line is longer.
-const LINE: usize = 64;
-
-fn put_refused(out: &mut [u8], at: usize, error: ParseError) -> usize {
+fn put_refused(out: &mut Block, at: usize, error: ParseError) -> usize
+    ensures { λ r. ⌜ output r (now (out .exit)) ≡ put (output at (now (out .entry))) (refusedLine error) ⌝ }
+{
     let at = lines::put_bytes(out, at, b"refused");
     let at = put_number(out, at, error.number() as usize);
     let at = put_number(out, at, error.place());
     lines::put_byte(out, at, b'\n')
 }
 
-fn put_finished(out: &mut [u8], at: usize, finished: Finished) -> usize {
+fn put_finished(out: &mut Block, at: usize, finished: Finished) -> usize
+    ensures { λ r. ⌜ output r (now (out .exit)) ≡ put (output at (now (out .entry))) (lastLine finished) ⌝ }
+{
     match finished {
         Finished::Done => lines::put_bytes(out, at, b"ok\n"),
         Finished::Refused(error) => put_refused(out, at, error),
@@ -35,7 +40,6 @@ fn print_items(text: &[u8]) {
     let mut turns = text.len() + 1;
     while 0 < turns {
         turns -= 1;
-        at = lines::make_room(&out, at, LINE);
         let phase = reader.phase;
         if let Phase::Finishing = phase {
             at = put_finished(&mut out, at, reader.finish(text));
@@ -63,7 +67,9 @@ fn main() {
     let n = io::read_full(STDIN_FILENO, &mut text);
     let mut more = [0u8; 1];
     if n == 65536 && 0 < io::read_full(STDIN_FILENO, &mut more) {
-        lines::flush(b"long\n", 5);
+        let mut out = io::buffer();
+        let at = lines::put_bytes(&mut out, 0, b"long\n");
+        lines::flush(&out, at);
     } else {
         print_items(&text[..n]);
     }

@@ -1,50 +1,55 @@
--- What putting bytes into a buffer does: as many of them as there is room for stand from the place on, and all else is as before.
+-- What putting bytes into a program's output does. The bytes are collected in a block of 4096, which is written whenever it is full.
 -- Assumes nothing.
-use mathlib.Core.Path.{_≡_}
-use mathlib.Core.List.{List, [], _∷_}
-use Prim.Native.Nat.{ℕ, _+_, _-_, min}
-use lib.ListN.{length}
-use lib.Seq.{paste}
-use Rattle.io.specs.Digits.{digits, Fewest}
+use mathlib.Core.Path.{_≡_, refl}
+use mathlib.Core.Bool.{cond}
+use mathlib.Core.List.{List, [], _∷_, _++_}
+use Prim.Native.Nat.{ℕ, zero, suc, _+_, _/_, _%_}
+use lib.Dec.{ltb}
+use lib.ListN.{set}
+use Rattle.io.specs.Digits.{glyph}
 use Rattle.sise_parser.specs.declared.reader.ParsedItem.{ParsedItem}
 
--- how many of the bytes fit
-abbrev pub fitting : List ℕ → ℕ → List ℕ → ℕ
-fitting out at s = min (length s) (length out - at)
-
-pub record Puts (before : List ℕ) (at : ℕ) (s : List ℕ) (r : ℕ) (after : List ℕ) : Type 0 where
-  pub place : r ≡ at + fitting before at s
-  pub bytes : after ≡ paste before at s (fitting before at s)
-
--- the digits of n, as few as hold it
-pub record PutsDecimal (before : List ℕ) (at n r : ℕ) (after : List ℕ) : Type 0 where
-  pub count : ℕ
-  pub fewest : Fewest 10 1 n count
-  pub puts : Puts before at (digits 10 count n) r after
-
--- a space, and the digits of n in the buffer that it left
-pub record PutsNumber (before : List ℕ) (at n r : ℕ) (after : List ℕ) : Type 0 where
+-- the place behind the bytes that wait, and the block
+pub record Output : Type 0 where
   pub place : ℕ
-  pub between : List ℕ
-  pub space : Puts before at (32 ∷ []) place between
-  pub number : PutsDecimal between place n r after
+  pub bytes : List ℕ
 
--- a letter, and a number after it
-pub record PutsLetter (before : List ℕ) (at c n r : ℕ) (after : List ℕ) : Type 0 where
-  pub place : ℕ
-  pub between : List ℕ
-  pub letter : Puts before at (c ∷ []) place between
-  pub number : PutsNumber between place n r after
+abbrev pub output : ℕ → List ℕ → Output
+output place bytes = record { place = place; bytes = bytes }
 
--- a letter with two numbers
-pub record PutsPair (before : List ℕ) (at c m n r : ℕ) (after : List ℕ) : Type 0 where
-  pub place : ℕ
-  pub between : List ℕ
-  pub letter : PutsLetter before at c m place between
-  pub number : PutsNumber between place n r after
+-- where the next byte goes: behind those that wait, or to the start of the next block
+unfoldable pub placeIn : Output → ℕ
+placeIn o = cond (ltb (o .place) 4096) (o .place) 0
+
+-- a byte goes there, and the place is behind it
+unfoldable pub putByte : Output → ℕ → Output
+putByte o byte = output (placeIn o + 1) (set (o .bytes) (placeIn o) byte)
+
+-- bytes go one behind the other
+unfoldable pub put : Output → List ℕ → Output
+put o [] = o
+put o (byte ∷ s) = put (putByte o byte) s
+
+-- the k last decimal digits of a number, without zeros before the first: the last one behind those of the tenth
+unfoldable pub decimalOf : ℕ → ℕ → List ℕ
+decimalOf zero n = []
+decimalOf (suc k) n = cond (ltb n 10) [] (decimalOf k (n / 10)) ++ (glyph (n % 10) ∷ [])
+
+-- a number of 64 bits has 20 at most
+unfoldable pub decimal : ℕ → List ℕ
+decimal n = decimalOf 20 n
+
+-- a number stands behind a space
+unfoldable pub number : ℕ → List ℕ
+number n = 32 ∷ decimal n
 
 -- `L place`, `A place length` or `E place`
-abbrev pub PutsItem : List ℕ → ℕ → ParsedItem → ℕ → List ℕ → Type 0
-PutsItem before at (ParsedItem.ListStart p) r after = PutsLetter before at 76 p r after
-PutsItem before at (ParsedItem.Atom p n) r after = PutsPair before at 65 p n r after
-PutsItem before at (ParsedItem.ListEnd p) r after = PutsLetter before at 69 p r after
+unfoldable pub itemText : ParsedItem → List ℕ
+itemText (ParsedItem.ListStart p) = 76 ∷ number p
+itemText (ParsedItem.Atom p n) = 65 ∷ (number p ++ number n)
+itemText (ParsedItem.ListEnd p) = 69 ∷ number p
+
+-- 0 has one digit; a zero inside stays
+some-decimals : (decimal 0 ≡ 48 ∷ []) × (decimal 65537 ≡ 54 ∷ 53 ∷ 53 ∷ 51 ∷ 55 ∷ []) × (decimal 100 ≡ 49 ∷ 48 ∷ 48 ∷ [])
+unfolding decimal decimalOf
+some-decimals = (refl, refl, refl)

@@ -1,11 +1,13 @@
 // The words of an item: `L place`, `A place length` or `E place`.
-ghost use Rattle.lines.specs.Put.{PutsItem};
+ghost use mathlib.Core.Path.{_≡_};
+ghost use Rattle.lines.specs.Put.{output, put, itemText};
+use crate::Block;
 use crate::put_letter;
 use crate::put_number;
 use sise_parser::ParsedItem;
 
-pub fn put_item(out: &mut [u8], at: usize, item: ParsedItem) -> usize
-    ensures { λ r. ⌜ PutsItem (now (out .entry)) at item r (now (out .exit)) ⌝ }
+pub fn put_item(out: &mut Block, at: usize, item: ParsedItem) -> usize
+    ensures { λ r. ⌜ output r (now (out .exit)) ≡ put (output at (now (out .entry))) (itemText item) ⌝ }
 {
     match item {
         ParsedItem::ListStart { pos } => put_letter(out, at, b'L', pos),

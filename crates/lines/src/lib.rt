@@ -1,42 +1,58 @@
-// Text for a program's output, put together in a lent buffer so that it is written in blocks. What does not fit is cut off.
+// Text for a program's output, collected in a lent block, which is written whenever it is full.
 mod item;
 
 pub use item::put_item;
 ghost use mathlib.Core.Path.{_≡_};
 ghost use mathlib.Core.List.{[], _∷_};
-ghost use lib.ListN.{length};
-ghost use Rattle.lines.specs.Put.{Puts, PutsDecimal, PutsNumber, PutsLetter};
-ghost use Rattle.lines.specs.Block.{placeWithRoom};
+ghost use Rattle.lines.specs.Put.{output, put, decimal, number};
 use libc::STDOUT_FILENO;
 
-// Puts the bytes from `at` of the buffer on, and answers the place after them.
-pub fn put_bytes(out: &mut [u8], at: usize, bytes: &[u8]) -> usize
-    ensures { λ r. ⌜ Puts (now (out .entry)) at (now (bytes .entry)) r (now (out .exit)) ⌝ }
+// A program has one, and the place behind the bytes in it that wait to be written.
+pub type Block = [u8; 4096];
+
+fn write_part(out: &[u8], at: usize) {
+    if at <= out.len() {
+        io::write_all(STDOUT_FILENO, &out[..at]);
+    }
+}
+
+// Writes the bytes before `at` to standard output, and answers where the next block begins. No contract can say what is written.
+pub fn flush(out: &Block, at: usize) -> usize
+    ensures { λ r. ⌜ r ≡ 0 ⌝ }
+{
+    write_part(out, at);
+    0
+}
+
+// Puts a byte behind the place `at`, and answers the place behind it.
+pub fn put_byte(out: &mut Block, at: usize, byte: u8) -> usize
+    ensures { λ r. ⌜ output r (now (out .exit)) ≡ put (output at (now (out .entry))) (byte ∷ []) ⌝ }
+{
+    if at < 4096 {
+        out[at] = byte;
+        return at + 1;
+    }
+    flush(out, 4096);
+    out[0] = byte;
+    1
+}
+
+// Puts the bytes, and answers the place behind them.
+pub fn put_bytes(out: &mut Block, at: usize, bytes: &[u8]) -> usize
+    ensures { λ r. ⌜ output r (now (out .exit)) ≡ put (output at (now (out .entry))) (now (bytes .entry)) ⌝ }
 {
     let mut to = at;
     let mut i = 0;
     while i < bytes.len() {
-        if out.len() <= to {
-            return to;
-        }
-        out[to] = bytes[i];
-        to += 1;
+        to = put_byte(out, to, bytes[i]);
         i += 1;
     }
     to
 }
 
-// Puts a byte at `at` of the buffer, and answers the place after it.
-pub fn put_byte(out: &mut [u8], at: usize, byte: u8) -> usize
-    ensures { λ r. ⌜ Puts (now (out .entry)) at (byte ∷ []) r (now (out .exit)) ⌝ }
-{
-    let one = [byte];
-    put_bytes(out, at, &one)
-}
-
-// Puts the decimal digits of n from `at` of the buffer on, and answers the place after them.
-pub fn put_decimal(out: &mut [u8], at: usize, n: u64) -> usize
-    ensures { λ r. ⌜ PutsDecimal (now (out .entry)) at n r (now (out .exit)) ⌝ }
+// Puts the decimal digits of n.
+pub fn put_decimal(out: &mut Block, at: usize, n: u64) -> usize
+    ensures { λ r. ⌜ output r (now (out .exit)) ≡ put (output at (now (out .entry))) (decimal n) ⌝ }
 {
     let mut text = [0u8; 20];
     let k = io::decimal(n, &mut text);
@@ -44,40 +60,17 @@ pub fn put_decimal(out: &mut [u8], at: usize, n: u64) -> usize
 }
 
 // Puts a space and the decimal digits of n.
-pub fn put_number(out: &mut [u8], at: usize, n: usize) -> usize
-    ensures { λ r. ⌜ PutsNumber (now (out .entry)) at n r (now (out .exit)) ⌝ }
+pub fn put_number(out: &mut Block, at: usize, n: usize) -> usize
+    ensures { λ r. ⌜ output r (now (out .exit)) ≡ put (output at (now (out .entry))) (number n) ⌝ }
 {
     let at = put_byte(out, at, b' ');
     put_decimal(out, at, n as u64)
 }
 
-// Puts a letter, and a number after it.
-pub fn put_letter(out: &mut [u8], at: usize, letter: u8, n: usize) -> usize
-    ensures { λ r. ⌜ PutsLetter (now (out .entry)) at letter n r (now (out .exit)) ⌝ }
+// Puts a letter, and a number behind it.
+pub fn put_letter(out: &mut Block, at: usize, letter: u8, n: usize) -> usize
+    ensures { λ r. ⌜ output r (now (out .exit)) ≡ put (output at (now (out .entry))) (letter ∷ number n) ⌝ }
 {
     let at = put_byte(out, at, letter);
     put_number(out, at, n)
-}
-
-// Writes the bytes before `at` of the buffer to standard output, and answers where the next block begins. No contract can say what is written.
-pub fn flush(out: &[u8], at: usize) -> usize
-    ensures { λ r. ⌜ r ≡ 0 ⌝ }
-{
-    if out.len() < at {
-        io::write_all(STDOUT_FILENO, out);
-    } else {
-        io::write_all(STDOUT_FILENO, &out[..at]);
-    }
-    0
-}
-
-// Sees that n bytes have room from the place answered on: the block is written if the buffer has fewer left.
-pub fn make_room(out: &[u8], at: usize, n: usize) -> usize
-    ensures { λ r. ⌜ r ≡ placeWithRoom (length (now (out .entry))) at n ⌝ }
-{
-    if at <= out.len() && n <= out.len() - at {
-        at
-    } else {
-        flush(out, at)
-    }
 }

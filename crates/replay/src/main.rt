@@ -34,26 +34,23 @@
 //
 // At a case that is malformed, or that the script's end cuts off, the line `malformed` is printed, and nothing after it. Of a writer's case the calls
 // before the malformed one are run, and of a tree's case those of the lines before the malformed one.
-mod line;
-mod reader_case;
-mod script;
 mod tree_case;
-mod tree_script;
 mod writer_case;
 
 ghost use Prim.Native.Nat.{_<_};
 ghost use lib.ListN.{length};
-ghost use Rattle.replay.specs.Script.{Onward};
-use crate::script::Ran;
+ghost use Rattle.script.specs.Script.{Onward};
 use libc::STDIN_FILENO;
+use lines::Block;
+use script::Ran;
 
 // Runs the case that begins at `from`.
-fn run_case(out: &mut [u8], at: usize, script: &[u8], from: usize) -> Ran
+fn run_case(out: &mut Block, at: usize, script: &[u8], from: usize) -> Ran
     requires { ⌜ from < length (now script) ⌝ }
     ensures { λ r. ⌜ Onward from r ⌝ }
 {
     match script[from] {
-        b'R' => reader_case::run(out, at, script, from + 1),
+        b'R' => replay_reader::run(out, at, script, from + 1),
         b'W' => writer_case::run(out, at, script, from + 1),
         b'T' => tree_case::run(out, at, script, from + 1),
         _ => Ran::Malformed { place: at },
@@ -71,8 +68,7 @@ fn run_script(script: &[u8]) {
                 from = next;
             }
             Ran::Malformed { place } => {
-                at = lines::make_room(&out, place, line::LINE);
-                at = lines::put_bytes(&mut out, at, b"malformed\n");
+                at = lines::put_bytes(&mut out, place, b"malformed\n");
                 break;
             }
         }

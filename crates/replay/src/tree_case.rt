@@ -2,26 +2,25 @@
 ghost use mathlib.Core.Path.{_≡_};
 ghost use Prim.Native.Nat.{_<_, _≤_};
 ghost use lib.ListN.{length};
-ghost use Rattle.replay.specs.Script.{Onward, NumbersFrom};
-use crate::line::LINE;
-use crate::reader_case::put_reader;
-use crate::script::Ran;
-use crate::script::TextCase;
-use crate::script::WriterCase;
-use crate::script::meant;
-use crate::script::read_text_case;
-use crate::script::read_writer_case;
-use crate::tree_script::Numbers;
-use crate::tree_script::TreeCalls;
-use crate::tree_script::TreeLine;
-use crate::tree_script::read_numbers;
-use crate::tree_script::read_tree_line;
-use crate::writer_case::CALL_LINE;
+ghost use Rattle.script.specs.Script.{Onward, NumbersFrom};
 use crate::writer_case::memory;
 use crate::writer_case::put_serializer;
 use crate::writer_case::put_written;
+use lines::Block;
 use lines::put_letter;
 use lines::put_number;
+use replay_reader::put_reader;
+use script::Numbers;
+use script::Ran;
+use script::TextCase;
+use script::TreeCalls;
+use script::TreeLine;
+use script::WriterCase;
+use script::meant;
+use script::read_numbers;
+use script::read_text_case;
+use script::read_tree_line;
+use script::read_writer_case;
 use sise_parser::Reader;
 use sise_serializer::Serializer;
 use sise_tree::Indexed;
@@ -48,7 +47,7 @@ fn fresh_numbers() -> [u64; 256]
     [0; 256]
 }
 
-fn put_parsed(out: &mut [u8], at: usize, answer: ParsedTree) -> usize {
+fn put_parsed(out: &mut Block, at: usize, answer: ParsedTree) -> usize {
     if let ParsedTree::Nodes(nodes) = answer {
         return put_letter(out, at, b'#', nodes);
     }
@@ -58,10 +57,9 @@ fn put_parsed(out: &mut [u8], at: usize, answer: ParsedTree) -> usize {
 }
 
 // The line of a parse_tree call.
-fn put_read(out: &mut [u8], at: usize, read: TreeRead) -> usize {
+fn put_read(out: &mut Block, at: usize, read: TreeRead) -> usize {
     let answer = read.answer;
     let reader = read.reader;
-    let at = lines::make_room(out, at, LINE);
     let at = put_parsed(out, at, answer);
     let at = put_reader(out, at, reader);
     lines::put_byte(out, at, b'\n')
@@ -72,12 +70,10 @@ fn wide(word: u32) -> usize {
 }
 
 // The line of all words of the table.
-fn put_words(out: &mut [u8], place: usize, table: &[u32]) -> usize {
-    let at = lines::make_room(out, place, LINE);
-    let mut at = lines::put_byte(out, at, b':');
+fn put_words(out: &mut Block, place: usize, table: &[u32]) -> usize {
+    let mut at = lines::put_byte(out, place, b':');
     let mut i = 0;
     while i < table.len() {
-        at = lines::make_room(out, at, LINE);
         at = put_number(out, at, wide(table[i]));
         i += 1;
     }
@@ -97,8 +93,7 @@ fn reader_after(text: &[u8], calls: usize) -> Reader {
 }
 
 // Reads a tree into the table after so many calls of next_item.
-fn put_case(out: &mut [u8], at: usize, text: &[u8], calls: usize, table: &mut [u32]) -> usize {
-    let at = lines::make_room(out, at, LINE);
+fn put_case(out: &mut Block, at: usize, text: &[u8], calls: usize, table: &mut [u32]) -> usize {
     let at = lines::put_bytes(out, at, b"case\n");
     let at = put_read(out, at, parse_tree(text, reader_after(text, calls), table));
     put_words(out, at, table)
@@ -142,7 +137,7 @@ fn open_lists(line_break: &[u8], indentation: &[u8], buf: &mut [u8], lists: usiz
     serializer
 }
 
-fn put_answer(out: &mut [u8], at: usize, answer: PutTree) -> usize {
+fn put_answer(out: &mut Block, at: usize, answer: PutTree) -> usize {
     match answer {
         PutTree::At(offset) => put_letter(out, at, b'@', offset),
         _ => put_letter(out, at, b'!', answer.number() as usize),
@@ -150,10 +145,9 @@ fn put_answer(out: &mut [u8], at: usize, answer: PutTree) -> usize {
 }
 
 // The lines of a call that wrote a tree.
-fn put_wrote(out: &mut [u8], at: usize, buf: &[u8], wrote: TreeWrote) -> usize {
+fn put_wrote(out: &mut Block, at: usize, buf: &[u8], wrote: TreeWrote) -> usize {
     let answer = wrote.answer;
     let serializer = wrote.serializer;
-    let at = lines::make_room(out, at, CALL_LINE);
     let at = put_answer(out, at, answer);
     let at = put_serializer(out, at, serializer);
     let at = lines::put_byte(out, at, b'\n');
@@ -162,7 +156,7 @@ fn put_wrote(out: &mut [u8], at: usize, buf: &[u8], wrote: TreeWrote) -> usize {
 
 // Writes the tree, again and again, in one buffer.
 fn put_trees(
-    out: &mut [u8],
+    out: &mut Block,
     place: usize,
     line_break: &[u8],
     indentation: &[u8],
@@ -193,14 +187,14 @@ fn put_trees(
     at
 }
 
-fn put_house(out: &mut [u8], at: usize, buf: &mut [u8], text: &[u8], tree: &[u32]) -> usize {
+fn put_house(out: &mut Block, at: usize, buf: &mut [u8], text: &[u8], tree: &[u32]) -> usize {
     let wrote = serialize_house(buf, text, tree);
     put_wrote(out, at, buf, wrote)
 }
 
 // Writes the tree into a buffer of so many bytes, and in house style into another.
 fn put_writings(
-    out: &mut [u8],
+    out: &mut Block,
     at: usize,
     line_break: &[u8],
     indentation: &[u8],
@@ -228,7 +222,7 @@ fn put_writings(
     put_house(out, at, &mut house[..room], text, tree)
 }
 
-fn put_indexed(out: &mut [u8], at: usize, answer: Indexed) -> usize {
+fn put_indexed(out: &mut Block, at: usize, answer: Indexed) -> usize {
     match answer {
         Indexed::Node(index) => put_letter(out, at, b'#', index),
         _ => put_letter(out, at, b'!', answer.number() as usize),
@@ -236,15 +230,14 @@ fn put_indexed(out: &mut [u8], at: usize, answer: Indexed) -> usize {
 }
 
 // The line of an index_path call.
-fn put_path(out: &mut [u8], at: usize, answer: Indexed) -> usize {
-    let at = lines::make_room(out, at, LINE);
+fn put_path(out: &mut Block, at: usize, answer: Indexed) -> usize {
     let at = put_indexed(out, at, answer);
     lines::put_byte(out, at, b'\n')
 }
 
 // Follows the paths after the line end at `line_end`.
 fn put_paths(
-    out: &mut [u8],
+    out: &mut Block,
     place: usize,
     script: &[u8],
     line_end: usize,
@@ -287,7 +280,7 @@ fn read_stores(script: &[u8], from: usize, table: &mut [u32]) -> Numbers
 
 // Makes the tree calls of the lines after the line end at `line_end`.
 fn put_calls(
-    out: &mut [u8],
+    out: &mut Block,
     at: usize,
     script: &[u8],
     line_end: usize,
@@ -328,7 +321,7 @@ fn put_calls(
 
 // Reads the tree, and makes the tree calls in the style after the line end at `line_end`.
 fn put_styled(
-    out: &mut [u8],
+    out: &mut Block,
     place: usize,
     script: &[u8],
     line_end: usize,
@@ -374,7 +367,7 @@ fn put_styled(
 }
 
 // Runs the tree's case whose letter stands before `from`.
-pub(crate) fn run(out: &mut [u8], at: usize, script: &[u8], from: usize) -> Ran
+pub(crate) fn run(out: &mut Block, at: usize, script: &[u8], from: usize) -> Ran
     ensures { λ r. ⌜ Onward from r ⌝ }
 {
     match read_text_case(script, from, 4096) {

@@ -2,27 +2,23 @@
 ghost use mathlib.Core.Path.{_≡_};
 ghost use Prim.Native.Nat.{_<_};
 ghost use lib.ListN.{length};
-ghost use Rattle.replay.specs.Script.{Onward, AtomIn};
-use crate::line::LINE;
-use crate::line::put_part;
-use crate::script::Asked;
-use crate::script::Call;
-use crate::script::Ran;
-use crate::script::WriterCase;
-use crate::script::meant;
-use crate::script::read_call;
-use crate::script::read_writer_case;
+ghost use Rattle.script.specs.Script.{Onward, AtomIn};
+use lines::Block;
 use lines::put_letter;
 use lines::put_number;
+use script::Asked;
+use script::Call;
+use script::Ran;
+use script::WriterCase;
+use script::meant;
+use script::read_call;
+use script::read_writer_case;
 use sise_serializer::Phase;
 use sise_serializer::Put;
 use sise_serializer::Serializer;
 use sise_serializer::Wrote;
 
-// No line of a call is longer: it has a digit for each of up to 200 open lists.
-pub(crate) const CALL_LINE: usize = 400;
-
-fn put_answer(out: &mut [u8], at: usize, answer: Put) -> usize {
+fn put_answer(out: &mut Block, at: usize, answer: Put) -> usize {
     if let Put::At(offset) = answer {
         return put_letter(out, at, b'@', offset);
     }
@@ -43,7 +39,7 @@ fn bit(on: bool) -> u8 {
 }
 
 // Puts the flags of the open lists, of which there are 200 at most.
-fn put_flags(out: &mut [u8], from: usize, flags: [bool; 200], lists: usize) -> usize {
+fn put_flags(out: &mut Block, from: usize, flags: [bool; 200], lists: usize) -> usize {
     let mut at = from;
     let mut i = 0;
     while i < 200 {
@@ -56,14 +52,14 @@ fn put_flags(out: &mut [u8], from: usize, flags: [bool; 200], lists: usize) -> u
     at
 }
 
-fn put_counts(out: &mut [u8], at: usize, serializer: Serializer) -> usize {
+fn put_counts(out: &mut Block, at: usize, serializer: Serializer) -> usize {
     let at = put_number(out, at, serializer.line_len);
     let at = put_number(out, at, serializer.spaces);
     let at = put_number(out, at, serializer.breaks);
     put_number(out, at, serializer.indents)
 }
 
-fn put_state(out: &mut [u8], at: usize, serializer: Serializer) -> usize {
+fn put_state(out: &mut Block, at: usize, serializer: Serializer) -> usize {
     let phase = serializer.phase;
     let at = put_number(out, at, serializer.position);
     let at = put_number(out, at, phase_number(phase));
@@ -72,7 +68,7 @@ fn put_state(out: &mut [u8], at: usize, serializer: Serializer) -> usize {
     lines::put_byte(out, at, bit(serializer.list_beginning))
 }
 
-pub(crate) fn put_serializer(out: &mut [u8], at: usize, serializer: Serializer) -> usize {
+pub(crate) fn put_serializer(out: &mut Block, at: usize, serializer: Serializer) -> usize {
     let flags = serializer.line_broken;
     let at = lines::put_bytes(out, at, b" |");
     let at = put_state(out, at, serializer);
@@ -82,22 +78,20 @@ pub(crate) fn put_serializer(out: &mut [u8], at: usize, serializer: Serializer) 
 }
 
 // The line of a call that left the record `serializer`.
-fn put_call(out: &mut [u8], at: usize, serializer: Serializer, answer: Put) -> usize {
-    let at = lines::make_room(out, at, CALL_LINE);
+fn put_call(out: &mut Block, at: usize, serializer: Serializer, answer: Put) -> usize {
     let at = put_answer(out, at, answer);
     let at = put_serializer(out, at, serializer);
     lines::put_byte(out, at, b'\n')
 }
 
-fn put_text(out: &mut [u8], at: usize, text: &[u8]) -> usize {
-    let at = lines::make_room(out, at, LINE);
+fn put_text(out: &mut Block, at: usize, text: &[u8]) -> usize {
     let at = lines::put_bytes(out, at, b"= ");
-    let at = put_part(out, at, text);
+    let at = lines::put_bytes(out, at, text);
     lines::put_byte(out, at, b'\n')
 }
 
 // The line of what stands in the buffer up to the position, which no call moves past the buffer's end.
-pub(crate) fn put_written(out: &mut [u8], at: usize, buf: &[u8], position: usize) -> usize {
+pub(crate) fn put_written(out: &mut Block, at: usize, buf: &[u8], position: usize) -> usize {
     if buf.len() < position {
         return at;
     }
@@ -129,7 +123,7 @@ fn make_call(
 
 // Makes the calls after the line end at `line_end`, all in one buffer.
 fn put_case(
-    out: &mut [u8],
+    out: &mut Block,
     place: usize,
     script: &[u8],
     line_end: usize,
@@ -141,8 +135,7 @@ fn put_case(
     requires { ⌜ «line_end» < length (now script) ⌝ }
     ensures { λ r. ⌜ Onward «line_end» r ⌝ }
 {
-    let at = lines::make_room(out, place, LINE);
-    let mut at = lines::put_bytes(out, at, b"case\n");
+    let mut at = lines::put_bytes(out, place, b"case\n");
     let mut serializer = Serializer::new();
     let mut from = line_end + 1;
     let mut left = calls;
@@ -171,7 +164,7 @@ pub(crate) fn memory() -> [u8; 4096]
 }
 
 // Runs the writer's case whose letter stands before `from`.
-pub(crate) fn run(out: &mut [u8], at: usize, script: &[u8], from: usize) -> Ran
+pub(crate) fn run(out: &mut Block, at: usize, script: &[u8], from: usize) -> Ran
     ensures { λ r. ⌜ Onward from r ⌝ }
 {
     match read_writer_case(script, from) {

@@ -1,17 +1,14 @@
--- A text's items, read one after the other: where n of them are read the reader has moved n bytes or more, so the bound on the calls never runs out. A
--- plain token is the item that next_item gives there.
+-- A text's items, read one after the other: where n of them are read the reader has moved n bytes or more, so the bound on the calls never runs out.
 -- Assumes nothing.
 use Prim.Native.Nat.{ℕ, suc, _+_, _-_, _*_, _≤_, _<_}
 use native.Mathlib.Nat.{zero-add}
 use native.Mathlib.Omega.{arith}
 use mathlib.Core.Path.{_≡_, refl, sym, ap, _∙_, subst}
-use mathlib.Core.Bool.{Bool, true, cond}
+use mathlib.Core.Bool.{true}
 use mathlib.Core.List.{List, [], _∷_}
-use lib.ListN.{length, drop}
-use borrow.Author.Tests.{eqb-true, ne-eqb}
+use lib.ListN.{length}
 use Rattle.sise_parser.specs.Refusals.{Refusal, refusalOf}
-use Rattle.sise_parser.specs.Lexer.{Lexed, found, opening, closing, atom, between}
-use Rattle.sise_parser.specs.Reader.{reader, freshReader, listsFit, isSound, item, refused, Next, next, tokenAt, inParsing, nextItem}
+use Rattle.sise_parser.specs.Reader.{reader, freshReader, isSound, item, refused, Next, next, nextItem}
 use Rattle.sise_parser.specs.Meaning.{answerAs, nextAs}
 use Rattle.sise_parser.specs.declared.error.ParseError.{ParseError}
 use Rattle.sise_parser.specs.declared.reader.Answer.{Answer}
@@ -19,11 +16,9 @@ use Rattle.sise_parser.specs.declared.reader.Answer.the-variants.{Item, Refused
 use Rattle.sise_parser.specs.declared.reader.Next.{Next as ReaderNext}
 use Rattle.sise_parser.specs.declared.reader.ParsedItem.{ParsedItem}
 use Rattle.sise_parser.specs.declared.reader.ParsedItem.the-variants.{Atom, ListStart, ListEnd}
-use Rattle.sise_parser.specs.declared.reader.Phase.{Phase}
-use Rattle.sise_parser.specs.declared.reader.Phase.the-variants.{Beginning, Parsing, Finishing}
 use Rattle.sise_parser.specs.declared.reader.Reader.{Reader}
-use Rattle.sise_parser.proofs.Calls.{sound-parts, next-parsing}
-use Rattle.sise_parser.proofs.ReaderLaws.{isItem, fresh-sound, stays-sound, item-moves}
+use Rattle.sise_parser.proofs.ReaderLaws.{fresh-sound}
+use Rattle.sise_tree.proofs.ReadSteps.{Took, took}
 use Rattle.sise_serializer.specs.Bytes.{pasted}
 use Rattle.sise_serializer.proofs.Bytes.{pasted-none, pasted-more}
 use Rattle.sise_c.specs.Items.{itemsFrom, endingBy, endingFrom, itemsOf, endingOf, itemWords, allWords}
@@ -43,7 +38,7 @@ ending-all : (text : List ℕ) {r : Reader} → r ≡ freshReader → endingFrom
 unfolding endingOf
 ending-all text {r} e = ap (λ (k : ℕ). endingFrom k text r) (none-read text) ∙ ap (endingFrom (suc (length text)) text) e
 
--- what a call was told to answer
+-- what a call answered
 module _ (text : List ℕ) (r : Reader) {m : ReaderNext} (e : nextAs m ≡ nextItem text r) where
   pub gave-item : {i : ParsedItem} → m .answer ≡ Item i → nextItem text r ≡ next (m .reader) (item i)
   gave-item d = sym e ∙ ap (λ (a : Answer). next (m .reader) (answerAs a)) d
@@ -75,23 +70,17 @@ module _ (text : List ℕ) (r : Reader) {q : Reader} (k : ℕ) where
 
 -- an item is read
 module _ (text : List ℕ) {r q : Reader} {n : ℕ} (at : Reached text r n) {i : ParsedItem} (e : nextItem text r ≡ next q (item i)) where
-  moves : r .position < q .position
-  moves = subst (λ (x : Next). r .position < x .reader .position) e (item-moves text r (at .sound) (ap (λ (x : Next). isItem (x .answer)) e))
-
-  stays : isSound (length text) q ≡ true
-  stays = subst (λ (x : Next). isSound (length text) (x .reader) ≡ true) e (stays-sound text r (at .sound))
-
-  within : q .position ≤ length text
-  within = sound-parts (length text) q stays .within
+  read : Took text r q i
+  read = took text r e
 
   pub falls : {p : ℕ} → p ≤ r .position → length text - q .position < length text - p
-  falls l = omega (arith, moves, within)
+  falls l = omega (arith, read .moves, read .within)
 
   pub fewer : n + 1 ≤ length text
-  fewer = omega (arith, moves, within, at .early)
+  fewer = omega (arith, read .moves, read .within, at .early)
 
   goes : Reached text q (n + 1)
-  goes = record { sound = stays; early = omega (arith, moves, at .early) }
+  goes = record { sound = read .stays; early = omega (arith, read .moves, at .early) }
 
   left : length text - n ≡ calls text (n + 1)
   left = omega (arith, fewer)
@@ -177,38 +166,3 @@ module _ (text w₀ : List ℕ) {r q : Reader} {words : List ℕ} {n : ℕ} (f :
               ∙ ap (λ (l : List ParsedItem). pasted words (4 * n) (allWords l)) (sym (items-more text (f .reached) e))
               ∙ f .gives;
         }
-
--- ---- plain tokens, inside a list
-
--- with a list open, a sound record is in the phase of parsing
-only-parsing : (h : Phase) (n : ℕ) → (n ≡ 0 → ⊥) → listsFit h n ≡ true → h ≡ Parsing
-only-parsing Beginning n o e = absurd (o (eqb-true n 0 e))
-only-parsing Parsing n o e = refl
-only-parsing Finishing n o e = absurd (o (eqb-true n 0 e))
-
-module _ (text : List ℕ) {h : Phase} {p d n : ℕ} (at : Reached text (reader p h d) n) (some : d ≡ 0 → ⊥) where
-  parsing : h ≡ Parsing
-  parsing = only-parsing h d some (sound-parts (length text) (reader p h d) (at .sound) .fit)
-
-  gives : {x : Lexed} → between (drop p text) p ≡ x → nextItem text (reader p h d) ≡ inParsing d x
-  unfolding tokenAt
-  gives t = sym (next-parsing text (reader p h d) (at .sound) parsing (sym t))
-
-  -- the record that it leaves
-  leaves : {q k : ℕ} {i : ParsedItem} → next (reader q Parsing k) (item i) ≡ next (reader q h k) (item i)
-  leaves {q} {k} {i} = ap (λ (a : Phase). next (reader q a k) (item i)) (sym parsing)
-
-  pub plain-atom : {k s q : ℕ} → between (drop p text) p ≡ found (atom k) s q → nextItem text (reader p h d) ≡ next (reader q h d) (item (Atom s k))
-  unfolding inParsing
-  plain-atom t = gives t ∙ leaves
-
-  pub plain-start : {s q : ℕ} → between (drop p text) p ≡ found opening s q → nextItem text (reader p h d) ≡ next (reader q h (d + 1)) (item (ListStart s))
-  unfolding inParsing
-  plain-start t = gives t ∙ leaves
-
-  pub plain-end : {s q : ℕ} → between (drop p text) p ≡ found closing s q → (d ≡ 1 → ⊥) → nextItem text (reader p h d) ≡ next (reader q h (d - 1)) (item (ListEnd s))
-  unfolding inParsing
-  plain-end {s} {q} t more =
-      gives t
-      ∙ ap (λ (b : Bool). next (cond b (reader q Finishing 0) (reader q Parsing (d - 1))) (item (ListEnd s))) (ne-eqb d 1 more)
-      ∙ leaves

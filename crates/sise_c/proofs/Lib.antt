@@ -1,3 +1,3 @@
-pub mod Telling
+pub mod Reporting
 pub mod ItemLaws
 pub mod ItemCalls

@@ -1,4 +1,4 @@
-pub mod Told
+pub mod Reports
 pub mod Items
 pub mod ItemExamples
 pub mod Passes

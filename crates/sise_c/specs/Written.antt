@@ -3,12 +3,18 @@
 use Prim.Native.Nat.{ℕ}
 use mathlib.Core.Path.{_≡_}
 use mathlib.Core.List.{List, map}
+use lib.ListN.{length}
 use Rattle.sise_serializer.specs.Bytes.{pasted}
-use Rattle.sise_serializer.specs.Calls.{Run}
-use Rattle.sise_serializer.specs.Words.{answerWord}
+use Rattle.sise_serializer.specs.Serializer.{Style}
+use Rattle.sise_serializer.specs.Calls.{Run, writing}
+use Rattle.sise_serializer.specs.Words.{callsOf, answerWord}
 
--- the run r over answer words that were `before`: n bytes are written, the buffer is `bytes`, the answer words are `now`
-pub record Writes (r : Run) (before : List ℕ) (n : ℕ) (bytes now : List ℕ) : Type 0 where
-  pub size : n ≡ r .last .position
-  pub buffer : bytes ≡ r .buffer
-  pub answers : now ≡ pasted before 0 (map answerWord (r .answers))
+-- the run of the calls that the words mean, in the buffer b, with room for so many answers
+abbrev pub runOf : Style → List ℕ → List ℕ → List ℕ → ℕ → Run
+runOf s words atoms b room = writing s b (callsOf words atoms room)
+
+-- that run over the buffer b and over answer words that were `before`: n bytes are written, the buffer is `bytes`, the answer words are `now`
+pub record WritesCalls (s : Style) (words atoms b before : List ℕ) (n : ℕ) (bytes now : List ℕ) : Type 0 where
+  pub size : n ≡ runOf s words atoms b (length before) .last .position
+  pub buffer : bytes ≡ runOf s words atoms b (length before) .buffer
+  pub answers : now ≡ pasted before 0 (map answerWord (runOf s words atoms b (length before) .answers))

@@ -2,10 +2,15 @@
 // memory that is lent to it. The result is 0 or document 01's number of the refusal; `values` are what is answered and 0, or the refusal's place and
 // code point. On a refusal nothing else is written.
 mod items;
-mod told;
+mod report;
 
 use items::count_items;
 use items::fill_items;
+use report::Values;
+use report::report_indexed;
+use report::report_parsed;
+use report::report_put;
+use report::report_refused;
 use sise_parser::Finished;
 use sise_serializer::LIMIT;
 use sise_serializer::write_calls;
@@ -14,27 +19,15 @@ use sise_tree::parse_text;
 use sise_tree_writer::measure_text;
 use sise_tree_writer::write_text;
 use sise_util::check_atom;
-use told::Values;
-use told::tell_indexed;
-use told::tell_parsed;
-use told::tell_put;
-use told::tell_refused;
 ghost use mathlib.Core.Path.{_≡_};
-ghost use mathlib.Core.List.{List};
-ghost use Prim.Native.Nat.{ℕ};
-ghost use lib.ListN.{length};
 ghost use Rattle.sise_util.specs.Atom.{isAtom};
-ghost use Rattle.sise_serializer.specs.Serializer.{style, freshSerializer};
-ghost use Rattle.sise_serializer.specs.Calls.{writing};
-ghost use Rattle.sise_serializer.specs.Words.{callsOf};
+ghost use Rattle.sise_serializer.specs.Serializer.{style};
 ghost use Rattle.sise_tree.specs.IndexPath.{indexPath};
-ghost use Rattle.sise_tree.specs.ParseTree.{longest};
 ghost use Rattle.sise_tree.specs.ParseText.{parseText};
-ghost use Rattle.sise_tree_writer.specs.SerializeTree.{writeTree};
-ghost use Rattle.sise_tree_writer.specs.Writing.{textCalls};
-ghost use Rattle.sise_c.specs.Told.{checked, Tells, sizeOf};
+ghost use Rattle.sise_tree_writer.specs.Writing.{writeText};
+ghost use Rattle.sise_c.specs.Reports.{checked, Reports, sizeOf, ReportsSize};
 ghost use Rattle.sise_c.specs.Items.{readItems};
-ghost use Rattle.sise_c.specs.Written.{Writes};
+ghost use Rattle.sise_c.specs.Written.{WritesCalls};
 
 // Whether the bytes are an atom: 0 or 17.
 #[no_mangle]
@@ -44,16 +37,16 @@ pub extern "C" fn sise_check_atom(atom: &[u8]) -> u32
     if check_atom(atom) { 0 } else { 17 }
 }
 
-// Reads a whole text, which is one node, into the table. Told is how many nodes it has.
+// Reads a whole text, which is one node, into the table. The first value is how many nodes it has.
 #[no_mangle]
 pub extern "C" fn sise_parse_tree(text: &[u8], table: &mut [u32], values: &mut Values) -> u32
-    ensures told { λ r. ⌜ Tells (parseText (now (text .entry)) (now (table .entry)) .answer) r (now (values .exit)) ⌝ }
+    ensures answer { λ r. ⌜ Reports (parseText (now (text .entry)) (now (table .entry)) .answer) r (now (values .exit)) ⌝ }
     ensures words { λ r. ⌜ now (table .exit) ≡ parseText (now (text .entry)) (now (table .entry)) .words ⌝ }
 {
-    tell_parsed(parse_text(text, table), values)
+    report_parsed(parse_text(text, table), values)
 }
 
-// Finds the node at the end of the path. Told is its index in the table.
+// Finds the node at the end of the path. The first value is its index in the table.
 #[no_mangle]
 pub extern "C" fn sise_index_path(
     table: &[u32],
@@ -61,12 +54,12 @@ pub extern "C" fn sise_index_path(
     path: &[u64],
     values: &mut Values,
 ) -> u32
-    ensures { λ r. ⌜ Tells (indexPath (now (table .entry)) (now (text .entry)) (now (path .entry))) r (now (values .exit)) ⌝ }
+    ensures { λ r. ⌜ Reports (indexPath (now (table .entry)) (now (text .entry)) (now (path .entry))) r (now (values .exit)) ⌝ }
 {
-    tell_indexed(index_path(table, text, path), values)
+    report_indexed(index_path(table, text, path), values)
 }
 
-// Writes the tree that the table holds over the text to the buffer's start, and a line break after it if wished. Told is how many bytes are written.
+// Writes the tree that the table holds over the text to the buffer's start, and a line break after it if wished. The first value is how many bytes are written.
 #[no_mangle]
 pub extern "C" fn sise_serialize_tree(
     line_break: &[u8],
@@ -78,8 +71,8 @@ pub extern "C" fn sise_serialize_tree(
     final_break: bool,
     values: &mut Values,
 ) -> u32
-    ensures told { λ r. ⌜ Tells (sizeOf (writeTree (style (now («line_break» .entry)) (now (indentation .entry))) (now (buf .entry)) freshSerializer (now (text .entry)) (now (table .entry)) (textCalls (now (text .entry)) «break_line_at» «final_break»))) r (now (values .exit)) ⌝ }
-    ensures bytes { λ r. ⌜ now (buf .exit) ≡ writeTree (style (now («line_break» .entry)) (now (indentation .entry))) (now (buf .entry)) freshSerializer (now (text .entry)) (now (table .entry)) (textCalls (now (text .entry)) «break_line_at» «final_break») .buffer ⌝ }
+    ensures answer { λ r. ⌜ Reports (sizeOf (writeText (style (now («line_break» .entry)) (now (indentation .entry))) (now (buf .entry)) (now (text .entry)) (now (table .entry)) «break_line_at» «final_break»)) r (now (values .exit)) ⌝ }
+    ensures bytes { λ r. ⌜ now (buf .exit) ≡ writeText (style (now («line_break» .entry)) (now (indentation .entry))) (now (buf .entry)) (now (text .entry)) (now (table .entry)) «break_line_at» «final_break» .buffer ⌝ }
 {
     let wrote = write_text(
         line_break,
@@ -91,10 +84,10 @@ pub extern "C" fn sise_serialize_tree(
         final_break,
     );
     let answer = wrote.answer;
-    tell_put(answer, wrote.serializer.position, values)
+    report_put(answer, wrote.serializer.position, values)
 }
 
-// Told is how many bytes sise_serialize_tree writes, with no buffer: what it tells of any buffer of the most bytes that it writes.
+// How many bytes sise_serialize_tree writes, with no buffer: result and values are what it gives in any buffer of the most bytes that it writes.
 #[no_mangle]
 pub extern "C" fn sise_measure_tree(
     line_break: &[u8],
@@ -105,7 +98,7 @@ pub extern "C" fn sise_measure_tree(
     final_break: bool,
     values: &mut Values,
 ) -> u32
-    ensures { λ r. ⌜ ((b : List ℕ) → length b ≡ longest → Tells (sizeOf (writeTree (style (now («line_break» .entry)) (now (indentation .entry))) b freshSerializer (now (text .entry)) (now (table .entry)) (textCalls (now (text .entry)) «break_line_at» «final_break»))) r (now (values .exit))) ⌝ }
+    ensures { λ r. ⌜ ReportsSize (λ b. writeText (style (now («line_break» .entry)) (now (indentation .entry))) b (now (text .entry)) (now (table .entry)) «break_line_at» «final_break») r (now (values .exit)) ⌝ }
 {
     let measured = measure_text(
         line_break,
@@ -117,19 +110,19 @@ pub extern "C" fn sise_measure_tree(
         final_break,
     );
     let answer = measured.answer;
-    tell_put(answer, measured.serializer.position, values)
+    report_put(answer, measured.serializer.position, values)
 }
 
-// Reads the items of a whole text into words, four an item, as sise_write_calls takes them. Told is how many items there are.
+// Reads the items of a whole text into words, four an item, as sise_write_calls takes them. The first value is how many items there are.
 #[no_mangle]
 pub extern "C" fn sise_read_items(text: &[u8], words: &mut [u64], values: &mut Values) -> u32
-    ensures told { λ r. ⌜ Tells (readItems (now (text .entry)) (now (words .entry)) .answer) r (now (values .exit)) ⌝ }
+    ensures answer { λ r. ⌜ Reports (readItems (now (text .entry)) (now (words .entry)) .answer) r (now (values .exit)) ⌝ }
     ensures words { λ r. ⌜ now (words .exit) ≡ readItems (now (text .entry)) (now (words .entry)) .words ⌝ }
 {
     let counted = count_items(text);
     let ending = counted.ending;
     if let Finished::Refused(error) = ending {
-        return tell_refused(error, values);
+        return report_refused(error, values);
     }
     if counted.items > words.len() / 4 {
         *values = [0, 0];
@@ -140,7 +133,7 @@ pub extern "C" fn sise_read_items(text: &[u8], words: &mut [u64], values: &mut V
     0
 }
 
-// Runs a list of writer calls, as write_calls of sise_layout does, and returns how many bytes of the buffer are written.
+// Runs a list of writer calls, as write_calls of sise_serializer does, and returns how many bytes of the buffer are written.
 #[no_mangle]
 pub extern "C" fn sise_write_calls(
     words: &[u64],
@@ -150,7 +143,7 @@ pub extern "C" fn sise_write_calls(
     buf: &mut [u8],
     answers: &mut [u64],
 ) -> u64
-    ensures { λ r. ⌜ Writes (writing (style (now («line_break» .entry)) (now (indentation .entry))) (now (buf .entry)) (callsOf (now (words .entry)) (now (atoms .entry)) (length (now (answers .entry))))) (now (answers .entry)) r (now (buf .exit)) (now (answers .exit)) ⌝ }
+    ensures { λ r. ⌜ WritesCalls (style (now («line_break» .entry)) (now (indentation .entry))) (now (words .entry)) (now (atoms .entry)) (now (buf .entry)) (now (answers .entry)) r (now (buf .exit)) (now (answers .exit)) ⌝ }
 {
     let ran = write_calls(words, atoms, line_break, indentation, buf, answers);
     ran.serializer.position as u64

@@ -11,13 +11,13 @@ use Rattle.sise_serializer.specs.Serializer.{Style, freshSerializer}
 use Rattle.sise_serializer.specs.declared.serializer.Phase.the-variants.{Done}
 use Rattle.sise_serializer.specs.declared.serializer.Serializer.{Serializer}
 use Rattle.sise_serializer.specs.Calls.{Call, Item, atom, listStart, listEnd, Placed, itemsOf, writing}
+use Rattle.sise_layout.specs.Rules.{writes}
 use Rattle.sise_layout.specs.Texts.{Finishes, textOf, Blank}
 use Rattle.sise_layout.specs.Reading.{asRead, Stands, All, none, more, Gives, itemRead, itemsRead}
 use Rattle.sise_layout.specs.Claim.{Spells, Holds}
 use Rattle.sise_serializer.specs.Examples.{house}
 use Rattle.sise_layout.specs.Examples.{used, worked, workedItems, Shown, shown, at-4, at-5, at-4-finishes, at-5-finishes, house-blank}
 use Rattle.sise_layout.proofs.Following.{follows-gives}
-use Rattle.sise_layout.proofs.Written.{writes}
 use Rattle.sise_layout.proofs.ReadBack.{follows}
 use Rattle.sise_layout.proofs.Lengths.{its-length}
 use Rattle.sise_layout.proofs.OneNode.{one-node}
@@ -53,10 +53,10 @@ module _ (s : Style) (buffer : List ℕ) (cs : List Call) (finished : Finishes s
   n = length buffer
 
   done : writes s n freshSerializer cs .last .phase ≡ Done
-  done = ap (λ (w : Serializer). w .phase) (sym (same-last s buffer cs)) ∙ ends-done s cs buffer freshSerializer finished
+  done = ap (λ (w : Serializer). w .phase) (sym (same-last s buffer cs)) ∙ ends-done s buffer cs finished
 
   -- with any style
-  pub any-style : Spells s buffer cs (itemsOf (writing s buffer cs .items))
+  pub any-style : Spells s (textOf (writing s buffer cs)) (writing s buffer cs .last) (itemsOf (writing s buffer cs .items))
   any-style = record {
     node = rw (same-items s buffer cs) (one-node s n cs done);
     size = rw (same-text s buffer cs, same-items s buffer cs, same-last s buffer cs) (its-length s n cs done ∙ omega arith);

@@ -10,10 +10,11 @@ use Rattle.sise_serializer.specs.Serializer.{Style, Written, last, freshSeriali
 use Rattle.sise_serializer.specs.declared.serializer.Phase.the-variants.{Done}
 use Rattle.sise_serializer.specs.declared.serializer.Serializer.{Serializer}
 use Rattle.sise_serializer.specs.Calls.{Call, Item, atom, listStart, listEnd, Placed, itemsOf, itemOf, step}
+use Rattle.sise_layout.specs.Rules.{writes}
 use Rattle.sise_layout.specs.Texts.{atomBytes, lists}
 use Rattle.sise_layout.proofs.Pieces.{Aligned, layoutOf, itemBytes}
 use Rattle.sise_layout.proofs.Outcomes.{Outcome, same, adds, ends, outcome}
-use Rattle.sise_layout.proofs.Written.{writes, fresh-aligned, last-aligned, last-paid, last-lists}
+use Rattle.sise_layout.proofs.Written.{fresh-aligned, last-aligned, last-paid, last-lists}
 
 abbrev bytesOf : List Placed → ℕ
 bytesOf items = atomBytes (itemsOf items) + 2 * lists (itemsOf items)
@@ -34,10 +35,10 @@ module _ (s : Style) (room : ℕ) where
 
   count-step : (cs : List Call) → Counts cs → (w : Serializer) → Aligned w → (c : Call) (r : Written) → Outcome s room w c r
       → Counted s w (itemOf c (r .answer) ++ writes s room (r .serializer) cs .items) (r .bytes ++ writes s room (r .serializer) cs .text) (writes s room (r .serializer) cs .last)
-  count-step cs h w i c r (same n u) = h w i
-  count-step cs h w i c r (adds k p a e q) =
+  count-step cs h w i c r (same n) = h w i
+  count-step cs h w i c r (adds k p a e) =
       rw (e, length-append, length-append) (omega (arith, a .paid, h (p .after) (a .aligned), item-counted k (itemsOf (writes s room (p .after) cs .items))))
-  count-step cs h w i c r (ends wished f e q) =
+  count-step cs h w i c r (ends wished f e) =
       rw (e, length-append, length-append) (omega (arith, last-paid s w wished, last-lists s w wished, h (last s w wished .after) (last-aligned s w wished i f)))
 
   counts : (cs : List Call) → Counts cs
@@ -46,9 +47,9 @@ module _ (s : Style) (room : ℕ) where
   counts (c ∷ cs) w i = count-step cs (counts cs) w i c (step s room w c) (outcome s room w i c)
 
   aligned-step : (w : Serializer) → Aligned w → (c : Call) (r : Written) → Outcome s room w c r → Aligned (r .serializer)
-  aligned-step w i c r (same n u) = i
-  aligned-step w i c r (adds k p a e q) = a .aligned
-  aligned-step w i c r (ends wished f e q) = last-aligned s w wished i f
+  aligned-step w i c r (same n) = i
+  aligned-step w i c r (adds k p a e) = a .aligned
+  aligned-step w i c r (ends wished f e) = last-aligned s w wished i f
 
   stays-aligned : (cs : List Call) (w : Serializer) → Aligned w → Aligned (writes s room w cs .last)
   unfolding writes

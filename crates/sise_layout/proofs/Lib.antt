@@ -11,5 +11,6 @@ pub mod OneNode
 pub mod Buffers
 pub mod Ended
 pub mod Demand3
+pub mod Made
 pub mod Sound
 pub mod Refused

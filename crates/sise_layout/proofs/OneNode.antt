@@ -1,6 +1,6 @@
 -- The items of a finished writing spell one node: while n lists are open, what follows closes them one after the other.
 -- Assumes nothing.
-use Prim.Native.Nat.{ℕ, suc, _+_, _-_}
+use Prim.Native.Nat.{ℕ, suc}
 use mathlib.Core.Path.{_≡_, refl, subst}
 use mathlib.Core.List.{List, [], _∷_, _++_, append-assoc}
 use Rattle.sise_serializer.specs.Serializer.{Style, Written, last, freshSerializer}
@@ -8,10 +8,11 @@ use Rattle.sise_serializer.specs.declared.serializer.Phase.{Phase}
 use Rattle.sise_serializer.specs.declared.serializer.Phase.the-variants.{Beginning, Writing, Finished, Done}
 use Rattle.sise_serializer.specs.declared.serializer.Serializer.{Serializer}
 use Rattle.sise_serializer.specs.Calls.{Call, Item, listStart, listEnd, itemsOf, itemOf, step}
+use Rattle.sise_layout.specs.Rules.{writes}
 use Rattle.sise_layout.specs.Nodes.{Node, Nodes, leaf, list, none, more}
 use Rattle.sise_layout.proofs.Pieces.{Aligned, Turns, only, begins, holds, deepens, shallower, ending}
 use Rattle.sise_layout.proofs.Outcomes.{Outcome, same, adds, ends, outcome}
-use Rattle.sise_layout.proofs.Written.{writes, fresh-aligned, last-aligned, last-done}
+use Rattle.sise_layout.proofs.Written.{fresh-aligned, last-aligned, last-done}
 
 -- the rest of a text in which n lists are open: each list's nodes and its end, the innermost first
 data Closes : ℕ → List Item → Type 0 where
@@ -52,9 +53,9 @@ module _ (s : Style) (room : ℕ) where
   spelled-step : (cs : List Call) → Spelled cs → (w : Serializer) → Aligned w → (c : Call) (r : Written) → Outcome s room w c r
       → writes s room (r .serializer) cs .last .phase ≡ Done → Spells (w .phase) (w .lists) (itemsOf (itemOf c (r .answer) ++ writes s room (r .serializer) cs .items))
   unfolding last
-  spelled-step cs h w i c r (same n u) d = h w i d
-  spelled-step cs h w i c r (adds k p a e q) d = rw e (spell-step _ (a .turns) (h (p .after) (a .aligned) d))
-  spelled-step cs h w i c r (ends wished f e q) d = rw (e, f) (rw (last-done s w wished) at (h (last s w wished .after) (last-aligned s w wished i f) d))
+  spelled-step cs h w i c r (same n) d = h w i d
+  spelled-step cs h w i c r (adds k p a e) d = rw e (spell-step _ (a .turns) (h (p .after) (a .aligned) d))
+  spelled-step cs h w i c r (ends wished f e) d = rw (e, f) (rw (last-done s w wished) at (h (last s w wished .after) (last-aligned s w wished i f) d))
 
   spelled : (cs : List Call) → Spelled cs
   unfolding writes

@@ -17,7 +17,7 @@ use Rattle.sise_parser.specs.Lexer.{found}
 use Rattle.sise_parser.specs.Reader.{next, reader, inBeginning, inParsing}
 use Rattle.sise_parser.specs.declared.reader.Phase as readerPhase
 use Rattle.sise_parser.specs.declared.reader.Phase.the-variants as at
-use Rattle.sise_serializer.specs.Serializer.{Style, Piece, deepest, listsFit, firstAtom, firstList, Gap, newLine, nothing, space, gapAt, newLineOf, laid, innerAs, inner, phaseAfter, closeAs, close}
+use Rattle.sise_serializer.specs.Serializer.{Style, Piece, listsFit, firstAtom, firstList, Gap, newLine, nothing, space, gapAt, newLineOf, laid, innerAs, inner, phaseAfter, closeAs, close}
 use Rattle.sise_serializer.specs.declared.serializer.Phase.{Phase}
 use Rattle.sise_serializer.specs.declared.serializer.Phase.the-variants.{Beginning, Writing, Finished, Done}
 use Rattle.sise_serializer.specs.declared.serializer.Serializer.{Serializer}
@@ -35,7 +35,7 @@ phaseOf Writing = at.Parsing
 phaseOf Finished = at.Finishing
 phaseOf Done = at.Finishing
 
--- the open lists are as many as the phase tells, and each has its byte
+-- the open lists are as many as the phase says, and each has its byte
 pub record Aligned (w : Serializer) : Type 0 where
   pub fit : listsFit (w .phase) (w .lists) ≡ true
   pub small : w .lists ≤ w .position
@@ -190,9 +190,9 @@ module _ (s : Style) (w : Serializer) (t : ℕ) (i : Aligned w) (f : w .phase �
     paid = omega (arith, laid-paid s w gap);
   }
 
-  pub inner-list : w .lists < deepest → Adds s w listStart (inner s w (40 ∷ []) true t)
+  pub inner-list : Adds s w listStart (inner s w (40 ∷ []) true t)
   unfolding inner innerAs inParsing asRead
-  inner-list below = record {
+  inner-list = record {
     bytes = refl;
     proper = refl;
     blank = laid-blank s w gap;

@@ -17,6 +17,7 @@ use Rattle.sise_serializer.specs.declared.serializer.Phase.{Phase}
 use Rattle.sise_serializer.specs.declared.serializer.Phase.the-variants.{Beginning, Writing, Finished, Done}
 use Rattle.sise_serializer.specs.declared.serializer.Serializer.{Serializer}
 use Rattle.sise_serializer.specs.Calls.{Call, Item, Placed, placed, itemOf, step}
+use Rattle.sise_layout.specs.Rules.{writes}
 use Rattle.sise_layout.specs.Texts.{allBlank, Blank}
 use Rattle.sise_layout.proofs.Lexing.{stops, token, lexeme, item-on}
 use Rattle.sise_layout.proofs.Blanks.{append-blank}
@@ -24,7 +25,7 @@ use Rattle.sise_layout.proofs.Following.{Follows, over, goes}
 use Rattle.sise_layout.proofs.ReaderSteps.{Going, taken, next-at, early-at, next-over, end-over, stands-at}
 use Rattle.sise_layout.proofs.Pieces.{Aligned, Adds, phaseOf, settled}
 use Rattle.sise_layout.proofs.Outcomes.{Outcome, same, adds, ends, outcome}
-use Rattle.sise_layout.proofs.Written.{writes, fresh-aligned, last-aligned, last-blank, last-done, last-stops}
+use Rattle.sise_layout.proofs.Written.{fresh-aligned, last-aligned, last-blank, last-done, last-stops}
 
 -- the outermost item is complete
 abbrev isOver : Phase → Bool
@@ -65,9 +66,9 @@ module _ (s : Style) (b : Blank s) (room : ℕ) where
 
   stops-step : (cs : List Call) → Stops cs → (w : Serializer) → Aligned w → settled w ≡ true → (c : Call) (r : Written) → Outcome s room w c r
       → stops (r .bytes ++ writes s room (r .serializer) cs .text) ≡ true
-  stops-step cs h w i g c r (same n u) = h w i g
-  stops-step cs h w i g c r (adds k p a e q) = a .apart b g (writes s room (p .after) cs .text)
-  stops-step cs h w i g c r (ends wished f e q) =
+  stops-step cs h w i g c r (same n) = h w i g
+  stops-step cs h w i g c r (adds k p a e) = a .apart b g (writes s room (p .after) cs .text)
+  stops-step cs h w i g c r (ends wished f e) =
       last-stops s w wished (writes s room (last s w wished .after) cs .text) b
       (h (last s w wished .after) (last-aligned s w wished i f) (rw (last-done s w wished)))
 
@@ -82,9 +83,9 @@ module _ (s : Style) (b : Blank s) (room : ℕ) where
 
   silent-step : (cs : List Call) → Silences cs → (w : Serializer) → Aligned w → isOver (w .phase) ≡ true → (c : Call) (r : Written) → Outcome s room w c r
       → Silent (itemOf c (r .answer) ++ writes s room (r .serializer) cs .items) (r .bytes ++ writes s room (r .serializer) cs .text)
-  silent-step cs h w i o c r (same n u) = h w i o
-  silent-step cs h w i o c r (adds k p a e q) = absurd (false≢true (sym (not-going (w .phase) (a .going)) ∙ o))
-  silent-step cs h w i o c r (ends wished f e q) = record {
+  silent-step cs h w i o c r (same n) = h w i o
+  silent-step cs h w i o c r (adds k p a e) = absurd (false≢true (sym (not-going (w .phase) (a .going)) ∙ o))
+  silent-step cs h w i o c r (ends wished f e) = record {
     noItem = rw e (later .noItem);
     blank = append-blank (last s w wished .layout ++ last s w wished .token) _ (last-blank s w wished b) (later .blank);
   }
@@ -148,9 +149,9 @@ module _ (s : Style) (b : Blank s) (room : ℕ) where
   read-step : (cs : List Call) → ReadBack cs → (w : Serializer) (pre : List ℕ) → Aligned w → length pre ≡ w .position → isOver (w .phase) ≡ false
       → (c : Call) (r : Written) → Outcome s room w c r → writes s room (r .serializer) cs .last .phase ≡ Done
       → Follows (pre ++ (r .bytes ++ writes s room (r .serializer) cs .text)) (beside w) (itemOf c (r .answer) ++ writes s room (r .serializer) cs .items)
-  read-step cs h w pre i l o c r (same n u) d = h w pre i l d
-  read-step cs h w pre i l o c r (adds k p a e q) d = rw e (read-item cs h w pre i l k p a d)
-  read-step cs h w pre i l o c r (ends wished f e q) d = absurd (false≢true (sym o ∙ rw f))
+  read-step cs h w pre i l o c r (same n) d = h w pre i l d
+  read-step cs h w pre i l o c r (adds k p a e) d = rw e (read-item cs h w pre i l k p a d)
+  read-step cs h w pre i l o c r (ends wished f e) d = absurd (false≢true (sym o ∙ rw f))
 
   read-back : (cs : List Call) → ReadBack cs
   unfolding writes

@@ -1,32 +1,19 @@
--- A run by the bytes that it writes, the buffer left aside; and the end of a text: a last break, or nothing.
+-- The end of a text: a last break, or nothing.
 -- Assumes nothing.
 use Prim.Native.Nat.{ℕ, _+_}
 use native.Mathlib.Omega.{arith}
 use mathlib.Core.Path.{_≡_, refl, ap, _∙_}
 use mathlib.Core.Bool.{Bool, true, false}
-use mathlib.Core.List.{List, [], _∷_, _++_, append-assoc}
+use mathlib.Core.List.{List, [], _++_, append-assoc}
 use lib.ListN.{length}
 use Rattle.sise_serializer.specs.Serializer.{Style, last, freshSerializer}
 use Rattle.sise_serializer.specs.declared.serializer.Phase.the-variants.{Finished, Done}
 use Rattle.sise_serializer.specs.declared.serializer.Serializer.{Serializer}
-use Rattle.sise_serializer.specs.Calls.{Call, Placed, itemOf, step}
 use Rattle.sise_layout.specs.Texts.{allBlank, Blank}
+unfoldable pub use Rattle.sise_layout.specs.Rules.{writes}
 use Rattle.sise_layout.proofs.Lexing.{stops}
 use Rattle.sise_layout.proofs.Blanks.{append-blank, blanks-stop}
 use Rattle.sise_layout.proofs.Pieces.{Aligned, layoutOf}
-
--- the record that calls leave, their items, and the bytes that they write, one after the other
-pub record Writes : Type 0 where
-  pub last : Serializer
-  pub items : List Placed
-  pub text : List ℕ
-
-unfoldable pub writes : Style → ℕ → Serializer → List Call → Writes
-writes s room w [] = record { last = w; items = []; text = [] }
-writes s room w (c ∷ cs) =
-    let r = step s room w c in
-    let rest = writes s room (r .serializer) cs in
-    record { last = rest .last; items = itemOf c (r .answer) ++ rest .items; text = r .bytes ++ rest .text }
 
 pub fresh-aligned : Aligned freshSerializer
 unfolding freshSerializer
@@ -49,10 +36,6 @@ module _ (s : Style) (w : Serializer) where
   pub last-lists : (wished : Bool) → last s w wished .after .lists ≡ w .lists
   unfolding last
   last-lists wished = refl
-
-  pub last-position : (wished : Bool) → last s w wished .after .position ≡ w .position + length (last s w wished .layout) + length (last s w wished .token)
-  unfolding last
-  last-position wished = omega arith
 
   pub last-stops : (wished : Bool) (r : List ℕ) → Blank s → stops r ≡ true → stops (last s w wished .layout ++ last s w wished .token ++ r) ≡ true
   unfolding last

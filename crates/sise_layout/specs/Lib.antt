@@ -1,4 +1,6 @@
 pub mod Texts
+pub mod Rules
+pub mod Made
 pub mod Reading
 pub mod Nodes
 pub mod Claim

@@ -8,6 +8,7 @@ use lib.ListN.{length, take, drop, replicate}
 use Rattle.sise_parser.specs.Refusals.{refusal}
 use Rattle.sise_parser.specs.Reader as reader
 use Rattle.sise_parser.specs.Reader.{freshReader, answersFrom, finishReading, refusedWith, ended, notEnded, afterCalls}
+use Rattle.sise_parser.specs.declared.reader.Reader.{Reader}
 use Rattle.sise_parser.specs.declared.reader.ParsedItem.the-variants.{Atom, ListStart, ListEnd}
 use Rattle.sise_serializer.specs.Calls.{Item, atom, listStart, listEnd, Placed}
 
@@ -39,6 +40,12 @@ pub record Gives (text : List ℕ) (items : List Placed) : Type 0 where
   pub bytes : All (Stands text) items
   pub early : (k : ℕ) → k < length items → finishReading text (afterCalls text k) ≡ notEnded (refusal 10 0 0)
   pub finished : (k : ℕ) → length items ≤ k → finishReading text (afterCalls text k) ≡ ended
+
+-- what a program got that read the text by calls of next_item made one by one, with the answers l, and what finish answers to the record v that they left
+pub record Got (text : List ℕ) (items : List Placed) (l : List reader.Answer) (v : Reader) : Type 0 where
+  pub answers : l ≡ take (length l) (map asRead items) ++ replicate (length l - length items) (refusedWith 9)
+  pub early : length l < length items → finishReading text v ≡ notEnded (refusal 10 0 0)
+  pub finished : length items ≤ length l → finishReading text v ≡ ended
 
 -- the item that an answer is, an atom with the bytes that stand in its place; a refusal is none
 unfoldable pub itemRead : List ℕ → reader.Answer → List Item

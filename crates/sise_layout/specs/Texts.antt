@@ -2,13 +2,15 @@
 -- Assumes nothing.
 use Prim.Native.Nat.{ℕ, _+_, _<_}
 use mathlib.Core.Path.{_≡_}
-use mathlib.Core.Bool.{Bool, true, _&&_, not}
-use mathlib.Core.List.{List, [], _∷_}
+use mathlib.Core.Bool.{Bool, true, _&&_, not, cond}
+use mathlib.Core.List.{List, [], _∷_, _++_, map}
 use lib.Dec.{eqb}
 use lib.ListN.{length, take}
 use Rattle.sise_util.specs.Chars.{oneOf}
-use Rattle.sise_serializer.specs.Serializer.{Style, Answer, accepted, refused}
-use Rattle.sise_serializer.specs.Calls.{Call, finishCall, step, Item, atom, listStart, listEnd, Run, writing}
+use Rattle.sise_util.specs.Atom.{isAtom}
+use Rattle.sise_serializer.specs.Bytes.{pasted}
+use Rattle.sise_serializer.specs.Serializer.{Style, Answer, accepted, refused, Written}
+use Rattle.sise_serializer.specs.Calls.{Call, putAtomCall, beginListCall, endListCall, finishCall, step, isAccepted, Item, atom, listStart, listEnd, Run, run, writing}
 use Rattle.sise_serializer.specs.declared.serializer.Serializer.{Serializer}
 
 -- "a `finish` is accepted": one of the calls, by its answer
@@ -23,8 +25,30 @@ Finishes s buffer cs = FinishAccepted cs (writing s buffer cs .answers)
 abbrev pub textOf : Run → List ℕ
 textOf r = take (r .last .position) (r .buffer)
 
--- Blank is a premise of what is said of reading, and not one of document 01's: a line break of no bytes would join two atoms, and one with other bytes
--- would be read as items or comments. It asks that line_break is not empty and both strings are of space, tab, CR and LF
+-- the refusal of a call after an accepted finish: 19, "added: any call after an accepted finish"; for put_atom 17 comes before it
+unfoldable pub lateNumber : Call → ℕ
+lateNumber (putAtomCall a t) = cond (isAtom a) 19 17
+lateNumber (beginListCall t) = 19
+lateNumber endListCall = 19
+lateNumber (finishCall wished) = 19
+
+-- the accepted finish among the calls cs, which begin with the record w and the buffer `first`: the calls before and after it, what it came to, and what all of
+-- them leave. "The text is the buffer's part up to the position that the accepted `finish` returned", and "The three counts are those in the record returned"
+pub record EndsAt (s : Style) (first : List ℕ) (w : Serializer) (cs : List Call) : Type 0 where
+  pub before : List Call
+  pub wished : Bool
+  pub after : List Call
+  pub calls : cs ≡ before ++ finishCall wished ∷ after
+  pub finish : Written
+  pub is-finish : finish ≡ step s (length (run s first w before .buffer)) (run s first w before .last) (finishCall wished)
+  pub is-accepted : isAccepted (finish .answer) ≡ true
+  -- later calls change neither record nor buffer, and are no items
+  pub last : run s first w cs .last ≡ finish .serializer
+  pub buffer : run s first w cs .buffer ≡ pasted (run s first w before .buffer) (run s first w before .last .position) (finish .bytes)
+  pub items : run s first w cs .items ≡ run s first w before .items
+  pub answers : run s first w cs .answers ≡ run s first w before .answers ++ finish .answer ∷ map (λ (c : Call). refused (lateNumber c)) after
+
+-- demand 3: "its own style, with line_break not empty and both style strings made only of space, tab, CR and LF"
 abbrev pub isBlank : ℕ → Bool
 isBlank b = oneOf (32 ∷ 9 ∷ 13 ∷ 10 ∷ []) b
 

@@ -1,4 +1,4 @@
--- The same steps where the code tells a byte by its value: each says which class it has.
+-- The same steps where the code knows a byte by its value: each says which class it has.
 -- Assumes nothing.
 use mathlib.Core.Path.{_≡_, refl, sym, ap, _∙_}
 use mathlib.Core.Bool.{Bool, true, false}

@@ -59,7 +59,7 @@ module _ (text : List ℕ) (r : Reader) where
   next-unsound h = sym (rw (h, nextItem))
 
   module _ (h : isSound (length text) r ≡ true) where
-    sound-next : nextItem text r ≡ nextIn (r .phase) text r
+    pub sound-next : nextItem text r ≡ nextIn (r .phase) text r
     unfolding nextItem
     sound-next = rw (h, nextItem)
 

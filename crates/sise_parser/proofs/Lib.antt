@@ -5,7 +5,8 @@ pub mod Placed
 pub mod Calls
 pub mod ReaderLaws
 pub mod Utf8Borders
-pub mod Shifted
-pub mod Moved
 pub mod Lossless
 pub mod Parts
+pub mod Readings
+pub mod TokenLaws
+pub mod RefusedLaws

@@ -6,6 +6,9 @@ use lib.Dec.{eqb}
 use Rattle.sise_parser.specs.Refusals.{Refusal, refusalOf}
 use Rattle.sise_parser.specs.Reader as reader
 use Rattle.sise_parser.specs.Meaning.{answerAs, nextAs, finishedAs}
+use Rattle.sise_parser.specs.Parser.{parsedAs, Parsed}
+use Rattle.sise_parser.specs.declared.parser.Parser.{Parser}
+use Rattle.sise_parser.specs.declared.parser.Parsed as code
 use Rattle.sise_parser.specs.declared.error.ParseError.{ParseError}
 use Rattle.sise_parser.specs.declared.error.ParseError.the-variants.{IllegalChr, IllegalChrInString, IllegalChrInComment, UnfinishedString, UnexpectedEof, UnexpectedRightParen, ExpectedEof, IllFormedChr, ParsingFinished, ParsingNotFinished, UnsoundRecord}
 use Rattle.sise_parser.specs.declared.reader.Answer.{Answer}
@@ -59,6 +62,16 @@ next-back n = ap (λ (a : Answer). made (n .reader) a) (answer-back (n .answer))
     made : Reader → Answer → Next
     made r a = record { reader = r; answer = a }
 
+-- the same of the thin reader's
+abbrev parsedFrom : Parsed → code.Parsed
+parsedFrom p = record { parser = p .parser; answer = answerOf (p .answer) }
+
+parsed-back : (p : code.Parsed) → parsedFrom (parsedAs p) ≡ p
+parsed-back p = ap (λ (a : Answer). made (p .parser) a) (answer-back (p .answer))
+  where
+    made : Parser → Answer → code.Parsed
+    made r a = record { parser = r; answer = a }
+
 abbrev finishedOf : reader.Ending → Finished
 finishedOf reader.ended = Done
 finishedOf (reader.notEnded e) = Finished.Refused (errorOf e)
@@ -72,6 +85,9 @@ refusal-lossless e f d = sym (error-back e) ∙ ap errorOf d ∙ error-back f
 
 pub next-lossless : (m n : Next) → nextAs m ≡ nextAs n → m ≡ n
 next-lossless m n d = sym (next-back m) ∙ ap nextOf d ∙ next-back n
+
+pub parsed-lossless : (p q : code.Parsed) → parsedAs p ≡ parsedAs q → p ≡ q
+parsed-lossless p q d = sym (parsed-back p) ∙ ap parsedFrom d ∙ parsed-back q
 
 pub finished-lossless : (f g : Finished) → finishedAs f ≡ finishedAs g → f ≡ g
 finished-lossless f g d = sym (finished-back f) ∙ ap finishedOf d ∙ finished-back g

@@ -10,7 +10,7 @@ use Rattle.sise_util.specs.declared.utf8.Character.{Character}
 use Rattle.sise_util.specs.declared.utf8.Character.the-variants.{Well, Ill}
 use Rattle.sise_util.proofs.Utf8Laws.{size-fits}
 use Rattle.sise_parser.specs.Lexer.{Token, eof, opening, closing, atom, Lexed, found, bad, wrong, between}
-use Rattle.sise_parser.proofs.Induction.{Cases, in-between}
+use Rattle.sise_parser.proofs.Induction.{InAtom, Cases, in-between}
 
 -- a token from s to q
 abbrev pub Spans : Token → ℕ → ℕ → Type 0
@@ -42,22 +42,22 @@ wrong-placed m b l p n e = go (character (b ∷ l)) refl
 abbrev R : List ℕ → ℕ → Lexed → Type 0
 R l p x = (n : ℕ) → p + length l ≡ n → Placed p n x
 
-abbrev A : List ℕ → ℕ → ℕ → Lexed → Type 0
-A l p s x = (n : ℕ) → p + length l ≡ n → s < p → Placed s n x
+abbrev A : InAtom → List ℕ → ℕ → ℕ → Lexed → Type 0
+A t l p s x = (n : ℕ) → p + length l ≡ n → s < p → Placed s n x
 
 cases : Cases R A
 cases =
     record {
       passed = λ b l p x a h n e. weaken p (p + 1) n x (omega arith) (h n (omega arith));
-      atomBegun = λ b l p x a h n e. h n (omega arith) (omega arith);
+      atomBegun = λ t b l p x a i h n e. h n (omega arith) (omega arith);
       atEnd = λ p n e. (omega arith, omega arith, refl);
       opened = λ b l p a n e. (omega arith, omega arith, refl);
       closed = λ b l p a n e. (omega arith, omega arith, refl);
-      refused = λ m b l p h n e. wrong-placed m b l p n e;
-      passedInAtom = λ b l p s x a h n e k. h n (omega arith) (omega arith);
+      refused = λ m b l p h i n e. wrong-placed m b l p n e;
+      passedInAtom = λ t u b l p s x a i h n e k. h n (omega arith) (omega arith);
       stopped = λ l p s n e k. (omega arith, omega arith, (omega arith, omega arith));
-      cut = λ p s n e k. (omega arith, omega arith);
-      refusedInAtom = λ b l p s n e k. weaken s p n (wrong 2 (b ∷ l) p) (omega arith) (wrong-placed 2 b l p n e);
+      cut = λ t p s n e k. (omega arith, omega arith);
+      refusedInAtom = λ t b l p s n e k. weaken s p n (wrong 2 (b ∷ l) p) (omega arith) (wrong-placed 2 b l p n e);
     }
 
 -- the token at or after a position of the text

@@ -2,7 +2,7 @@
 -- valid UTF-8 no call is refused with 8.
 -- Assumes nothing.
 use mathlib.Core.Path.{_≡_, refl, sym, ap, _∙_, subst}
-use mathlib.Core.Bool.{Bool, true, false, cond}
+use mathlib.Core.Bool.{Bool, true, false, cond, false≢true}
 use mathlib.Core.List.{List}
 use Prim.Native.Nat.{ℕ, zero, suc, _+_, _-_, _≤_, _<_, zero-le}
 use native.Mathlib.Nat.{le-refl}
@@ -41,10 +41,7 @@ unfolding isSound
 sound-of n p f k h o e = rw (le-leb p n h, le-leb k p o) e
 
 no-item : {A : Type 0} → false ≡ true → A
-no-item e = absurd (false-true e)
-  where
-    false-true : false ≡ true → ⊥
-    false-true d = let z : _≡_ {A = ℕ} 0 1 = cc in omega arith
+no-item e = absurd (false≢true e)
 
 -- with no list open, before the first item
 step-beginning : (n p : ℕ) (x : Lexed) → Placed p n x → Step n p (inBeginning 0 x)
@@ -64,16 +61,13 @@ step-beginning n p (found (atom k) s q) h =
     record { sound = sound-of n q Finishing 0 (h .1) zero-le refl; forward = omega (arith, h .0); moved = λ e. omega (arith, h .0) }
 
 -- with k lists open, k at most the position
-fits : (k : ℕ) → 1 ≤ k → listsFit Parsing k ≡ true
-fits k h = le-leb 1 k h
-
 step-closed : (n p k s q : ℕ) → 1 ≤ k → k ≤ p → p ≤ s → s + 1 ≡ q → q ≤ n → isSound n (closed q k) ≡ true
 step-closed n p k s q a b c d e =
     split (eqb k 1)
     (λ t. subst (λ (r : Reader). isSound n r ≡ true) (sym (ap (λ (v : Bool). cond v (reader q Finishing 0) (reader q Parsing (k - 1))) t)) (sound-of n q Finishing 0 e zero-le refl))
     (λ t.
     subst (λ (r : Reader). isSound n r ≡ true) (sym (ap (λ (v : Bool). cond v (reader q Finishing 0) (reader q Parsing (k - 1))) t))
-    (sound-of n q Parsing (k - 1) e (omega arith) (fits (k - 1) (two (eqb-false k 1 t)))))
+    (sound-of n q Parsing (k - 1) e (omega arith) (le-leb 1 (k - 1) (two (eqb-false k 1 t)))))
   where
     two : (k ≡ 1 → ⊥) → 1 ≤ k - 1
     two m = omega arith
@@ -86,23 +80,20 @@ closed-position q k =
 
 step-parsing : (n p k : ℕ) (x : Lexed) → 1 ≤ k → k ≤ p → Placed p n x → Step n p (inParsing k x)
 unfolding inParsing
-step-parsing n p k (bad e q) a b h = record { sound = sound-of n q Parsing k (h .1) (omega (arith, h .0)) (fits k a); forward = h .0; moved = no-item }
+step-parsing n p k (bad e q) a b h = record { sound = sound-of n q Parsing k (h .1) (omega (arith, h .0)) (le-leb 1 k a); forward = h .0; moved = no-item }
 step-parsing n p k (found eof s q) a b h =
     let d : s ≡ q = h .2 in
-    record { sound = sound-of n q Parsing k (h .1) (omega (arith, h .0)) (fits k a); forward = omega (arith, h .0); moved = no-item }
+    record { sound = sound-of n q Parsing k (h .1) (omega (arith, h .0)) (le-leb 1 k a); forward = omega (arith, h .0); moved = no-item }
 step-parsing n p k (found opening s q) a b h =
     let d : s + 1 ≡ q = h .2 in
-    record { sound = sound-of n q Parsing (k + 1) (h .1) (omega (arith, h .0)) (fits (k + 1) (omega arith)); forward = omega (arith, h .0); moved = λ e. omega (arith, h .0) }
+    record { sound = sound-of n q Parsing (k + 1) (h .1) (omega (arith, h .0)) (le-leb 1 (k + 1) (omega arith)); forward = omega (arith, h .0); moved = λ e. omega (arith, h .0) }
 step-parsing n p k (found closing s q) a b h =
     let d : s + 1 ≡ q = h .2 in
     let c : closed q k .position ≡ q = closed-position q k in
     record { sound = step-closed n p k s q a b (h .0) d (h .1); forward = omega (arith, h .0); moved = λ e. omega (arith, h .0) }
 step-parsing n p k (found (atom m) s q) a b h =
     let d : (1 ≤ m) × (s + m ≡ q) = h .2 in
-    record { sound = sound-of n q Parsing k (h .1) (omega (arith, h .0)) (fits k a); forward = omega (arith, h .0); moved = λ e. omega (arith, h .0) }
-
-no-lists : (k : ℕ) → eqb k 0 ≡ true → k ≡ 0
-no-lists k e = eqb-true k 0 e
+    record { sound = sound-of n q Parsing k (h .1) (omega (arith, h .0)) (le-leb 1 k a); forward = omega (arith, h .0); moved = λ e. omega (arith, h .0) }
 
 step : (text : List ℕ) (r : Reader) → isSound (length text) r ≡ true → Step (length text) (r .position) (nextItem text r)
 unfolding tokenAt
@@ -119,7 +110,7 @@ step text r h = go (r .phase) refl
 
     go : (f : Phase) → r .phase ≡ f → Step (length text) (r .position) (nextItem text r)
     go Beginning e =
-        let z : r .lists ≡ 0 = no-lists (r .lists) (ap (λ (f : Phase). listsFit f (r .lists)) (sym e) ∙ s .fit) in
+        let z : r .lists ≡ 0 = eqb-true (r .lists) 0 (ap (λ (f : Phase). listsFit f (r .lists)) (sym e) ∙ s .fit) in
         subst (Step (length text) (r .position)) (ap (λ (k : ℕ). inBeginning k x) (sym z) ∙ next-beginning text r h e refl)
         (step-beginning (length text) (r .position) x placed)
     go Parsing e =

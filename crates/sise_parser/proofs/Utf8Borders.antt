@@ -17,7 +17,7 @@ use Rattle.sise_util.proofs.Ranges.{split}
 use Rattle.sise_util.proofs.ClassLaws.{no-class}
 use Rattle.sise_util.proofs.Utf8Laws.{ascii, ValidStep, valid-step}
 use Rattle.sise_parser.specs.Lexer.{Lexed, found, bad, wrong, between}
-use Rattle.sise_parser.proofs.Induction.{isOther, Cases, in-between}
+use Rattle.sise_parser.proofs.Induction.{isOther, From, next-from, InAtom, Cases, in-between}
 
 -- the text is valid from q on
 abbrev pub Border : List ℕ → ℕ → Type 0
@@ -26,10 +26,6 @@ Border text q = Utf8Octets (drop q text)
 abbrev pub Bordered : List ℕ → Lexed → Type 0
 Bordered text (found t s q) = Border text q
 Bordered text (bad e q) = (e .number < 8) × Border text q
-
--- the bytes from p on are l
-abbrev From : List ℕ → ℕ → List ℕ → Type 0
-From text p l = drop p text ≡ l
 
 -- a byte that is not `other` is below 0x7F
 small : (b : ℕ) → isOther (classOf b) ≡ false → b < 127
@@ -50,10 +46,6 @@ ascii-next b l h v =
     one : {c k : ℕ} → Well c k ≡ Well b 1 → k ≡ 1
     one e = cc
 
--- the bytes after the first
-next-from : (text : List ℕ) (p b : ℕ) (l : List ℕ) → From text p (b ∷ l) → From text (p + 1) l
-next-from text p b l e = sym (drop-drop 1 p text) ∙ ap (drop 1) e
-
 wrong-border : (n b : ℕ) (l : List ℕ) (p : ℕ) (text : List ℕ) → n < 8 → From text p (b ∷ l) → Utf8Octets (b ∷ l) → Bordered text (wrong n (b ∷ l) p)
 unfolding wrong
 wrong-border n b l p text h e v =
@@ -63,34 +55,32 @@ wrong-border n b l p text h e v =
 abbrev R : List ℕ → ℕ → Lexed → Type 0
 R l p x = (text : List ℕ) → From text p l → Utf8Octets l → Bordered text x
 
-abbrev A : List ℕ → ℕ → ℕ → Lexed → Type 0
-A l p s x = R l p x
+abbrev A : InAtom → List ℕ → ℕ → ℕ → Lexed → Type 0
+A t l p s x = R l p x
 
-on : (b : ℕ) (l : List ℕ) (p : ℕ) (x : Lexed) → isOther (classOf b) ≡ false → R l (p + 1) x → R (b ∷ l) p x
-on b l p x a h text e v = h text (next-from text p b l e) (ascii-next b l (below (small b a)) v)
-  where
-    below : b < 127 → b < 128
-    below k = omega arith
+module _ (b : ℕ) (l : List ℕ) (p : ℕ) (a : isOther (classOf b) ≡ false) where
+  below : b < 128
+  below = let k : b < 127 = small b a in omega arith
 
-after-one : (b : ℕ) (l : List ℕ) (p : ℕ) (text : List ℕ) → isOther (classOf b) ≡ false → From text p (b ∷ l) → Utf8Octets (b ∷ l) → Border text (p + 1)
-after-one b l p text a e v = subst Utf8Octets (sym (next-from text p b l e)) (ascii-next b l (below (small b a)) v)
-  where
-    below : b < 127 → b < 128
-    below k = omega arith
+  on : (x : Lexed) → R l (p + 1) x → R (b ∷ l) p x
+  on x h text e v = h text (next-from text p e) (ascii-next b l below v)
+
+  after-one : (text : List ℕ) → From text p (b ∷ l) → Utf8Octets (b ∷ l) → Border text (p + 1)
+  after-one text e v = subst Utf8Octets (sym (next-from text p e)) (ascii-next b l below v)
 
 cases : Cases R A
 cases =
     record {
-      passed = on;
-      atomBegun = on;
+      passed = λ b l p x a. on b l p a x;
+      atomBegun = λ t b l p x a i. on b l p a x;
       atEnd = λ p text e v. subst Utf8Octets (sym e) v;
-      opened = λ b l p a text e v. after-one b l p text a e v;
-      closed = λ b l p a text e v. after-one b l p text a e v;
-      refused = λ n b l p h text e v. wrong-border n b l p text h e v;
-      passedInAtom = λ b l p s x a h. on b l p x a h;
+      opened = λ b l p c. after-one b l p (ap isOther c);
+      closed = λ b l p c. after-one b l p (ap isOther c);
+      refused = λ n b l p h k text e v. wrong-border n b l p text (omega arith) e v;
+      passedInAtom = λ t u b l p s x a i. on b l p a x;
       stopped = λ l p s text e v. subst Utf8Octets (sym e) v;
-      cut = λ p s text e v. (lit< tt, subst Utf8Octets (sym e) v);
-      refusedInAtom = λ b l p s text e v. wrong-border 2 b l p text (lit< tt) e v;
+      cut = λ t p s text e v. (lit< tt, subst Utf8Octets (sym e) v);
+      refusedInAtom = λ t b l p s text e v. wrong-border 2 b l p text (lit< tt) e v;
     }
 
 -- the token at or after a border of a valid text

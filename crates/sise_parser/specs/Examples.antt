@@ -1,14 +1,17 @@
--- Document 01's worked examples of the reader, by computation: the table of refusals, rows 1 to 10; the slips that it names; the items of the worked text.
+-- Document 01's worked examples of the reader, by computation: the table of refusals, rows 1 to 10; the slips that it names; comments, positions
+-- after refusals and unsound records; the items of the worked text.
 -- Assumes nothing.
 use Prim.Native.Nat.{ℕ}
 use mathlib.Core.Path.{_≡_, refl}
-use mathlib.Core.List.{List, [], _∷_}
+use mathlib.Core.List.{List, [], _∷_, map}
 use Rattle.sise_util.specs.Chars.{within}
 use Rattle.sise_util.specs.Classes.{classOf}
 use Rattle.sise_util.specs.Utf8.{character, byRows, forms, follow}
 use Rattle.sise_parser.specs.Refusals.{Refusal, refusal}
 use Rattle.sise_parser.specs.Lexer.{wrong, between, comment, plain, string, escape}
-use Rattle.sise_parser.specs.Reader.{Answer, item, refused, freshReader, isSound, tokenAt, inBeginning, inParsing, nextIn, nextItem, afterCalls, answersFrom, Ending, ended, notEnded, endsAt, finishIn, finishReading}
+use Rattle.sise_parser.specs.Reader.{Answer, item, refused, next, refusedWith, reader, freshReader, isSound, tokenAt, inBeginning, inParsing, nextIn, nextItem, afterCalls, answersFrom, Ending, ended, notEnded, endsAt, finishIn, finishReading}
+use Rattle.sise_parser.specs.declared.reader.Phase.the-variants.{Beginning, Parsing, Finishing}
+use Rattle.sise_parser.specs.declared.reader.Reader.{Reader}
 use Rattle.sise_parser.specs.declared.reader.ParsedItem.the-variants.{Atom, ListStart, ListEnd}
 
 -- what a call of next_item, or finish, answers after k calls
@@ -65,6 +68,39 @@ slips = refl
 pub escape-at-end : asked (34 ∷ 92 ∷ []) 0 ≡ refused (refusal 4 2 0)
 unfolding asked finishAfter afterCalls nextItem nextIn isSound tokenAt inBeginning inParsing finishReading finishIn endsAt between comment plain string escape wrong classOf character byRows forms follow within
 escape-at-end = refl
+
+-- `;`, tab, `a`, CR, `b`: a comment has tabs in it, and ends at CR as at LF
+pub comments : asked (59 ∷ 9 ∷ 97 ∷ 13 ∷ 98 ∷ []) 0 ∷ asked (59 ∷ 9 ∷ 97 ∷ 10 ∷ 98 ∷ []) 0 ∷ [] ≡ item (Atom 4 1) ∷ item (Atom 4 1) ∷ []
+unfolding asked afterCalls nextItem nextIn isSound tokenAt inBeginning between comment plain classOf
+comments = refl
+
+-- the position after 6 and after 8: `)a`; 0xC3 0x28; the same in a list, `(` 0xC3 0x28
+pub after-6-and-8 : nextItem (41 ∷ 97 ∷ []) freshReader ∷ nextItem (195 ∷ 40 ∷ []) freshReader ∷ nextItem (40 ∷ 195 ∷ 40 ∷ []) (reader 1 Parsing 1) ∷ [] ≡
+    next (reader 1 Beginning 0) (refused (refusal 6 0 0)) ∷
+    next (reader 1 Beginning 0) (refused (refusal 8 0 0)) ∷
+    next (reader 2 Parsing 1) (refused (refusal 8 1 0)) ∷
+    []
+unfolding nextItem nextIn isSound tokenAt inBeginning inParsing between wrong classOf character byRows forms follow within
+after-6-and-8 = refl
+
+-- records at the bounds of soundness over `((`: a position past the text; more open lists than the position; an open list in beginning and in
+-- finishing; none while parsing
+unfoldable pub unsoundReaders : List Reader
+unsoundReaders = reader 3 Beginning 0 ∷ reader 1 Parsing 2 ∷ reader 1 Beginning 1 ∷ reader 1 Finishing 1 ∷ reader 1 Parsing 0 ∷ []
+
+pub unsound-next : map (λ r. nextItem (40 ∷ 40 ∷ []) r .answer) unsoundReaders ≡ refusedWith 11 ∷ refusedWith 11 ∷ refusedWith 11 ∷ refusedWith 11 ∷ refusedWith 11 ∷ []
+unfolding unsoundReaders nextItem isSound
+unsound-next = refl
+
+pub unsound-finish : map (finishReading (40 ∷ 40 ∷ [])) unsoundReaders ≡
+    notEnded (refusal 11 0 0) ∷ notEnded (refusal 11 0 0) ∷ notEnded (refusal 11 0 0) ∷ notEnded (refusal 11 0 0) ∷ notEnded (refusal 11 0 0) ∷ []
+unfolding unsoundReaders finishReading isSound
+unsound-finish = refl
+
+-- and a sound one at both bounds at once, whose position is the text's end and whose lists are as many
+pub sound-at-bounds : nextItem (40 ∷ 40 ∷ []) (reader 2 Parsing 2) ≡ next (reader 2 Parsing 2) (refused (refusal 5 2 0))
+unfolding nextItem nextIn isSound tokenAt inParsing between
+sound-at-bounds = refl
 
 -- `(z (+1 "a b") ~)`
 unfoldable pub workedText : List ℕ

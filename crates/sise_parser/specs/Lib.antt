@@ -4,4 +4,6 @@ pub mod Plain
 pub mod Reader
 pub mod Meaning
 pub mod Parser
+pub mod Refused
+pub mod Readings
 pub mod Examples

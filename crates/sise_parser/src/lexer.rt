@@ -1,5 +1,5 @@
 // Tokens (parser.rs, `Lexer`). The table of classes is built anew at each use, so it serves where a run of bytes is long, in strings and comments; a
-// token's first byte and an atom's bytes are told by cases and by a mask.
+// token's first byte and an atom's bytes are tested by cases and by a mask.
 use crate::error::ParseError;
 use sise_util::Character;
 use sise_util::character_at;

@@ -174,7 +174,7 @@ impl Reader {
         lists_fit(phase, self.lists)
     }
 
-    // The next item of the text. The record that comes back is for the next call, after a refusal too. A bracket right at the position is told here, in few
+    // The next item of the text. The record that comes back is for the next call, after a refusal too. A bracket right at the position is found here, in few
     // steps, so that the call costs nothing in a loop.
     pub fn next_item(self, text: &[u8]) -> Next
         ensures { λ r. ⌜ nextAs r ≡ nextItem (now (text .entry)) self ⌝ }

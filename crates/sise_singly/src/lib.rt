@@ -4,11 +4,8 @@ use sise_parser::Answer;
 use sise_parser::Reader;
 use sise_serializer::write_calls_singly;
 ghost use mathlib.Core.Path.{_≡_};
-ghost use lib.ListN.{length};
 ghost use Rattle.sise_serializer.specs.Serializer.{style};
-ghost use Rattle.sise_serializer.specs.Calls.{writing};
-ghost use Rattle.sise_serializer.specs.Words.{callsOf};
-ghost use Rattle.sise_c.specs.Written.{Writes};
+ghost use Rattle.sise_c.specs.Written.{WritesCalls};
 ghost use Rattle.sise_singly.specs.Count.{countItems};
 
 // How many items a reader of the text gives before its first refusal; a whole text is refused with 9 after its last item.
@@ -44,7 +41,7 @@ pub extern "C" fn sise_write_calls_singly(
     buf: &mut [u8],
     answers: &mut [u64],
 ) -> u64
-    ensures { λ r. ⌜ Writes (writing (style (now («line_break» .entry)) (now (indentation .entry))) (now (buf .entry)) (callsOf (now (words .entry)) (now (atoms .entry)) (length (now (answers .entry))))) (now (answers .entry)) r (now (buf .exit)) (now (answers .exit)) ⌝ }
+    ensures { λ r. ⌜ WritesCalls (style (now («line_break» .entry)) (now (indentation .entry))) (now (words .entry)) (now (atoms .entry)) (now (buf .entry)) (now (answers .entry)) r (now (buf .exit)) (now (answers .exit)) ⌝ }
 {
     let done = write_calls_singly(words, atoms, line_break, indentation, buf, answers);
     done.serializer.position as u64

@@ -36,8 +36,8 @@ module _ {w₀ words : List ℕ} {f : Frames} {m : Mark} (h : Shows w₀ (inside
     pub atom-fits : Fits (length words) f (Atom p (end - p)) end
     atom-fits = subst (λ (j : ParsedItem). Fits (length words) f j end) by-end u
 
-    pub atom-told : {now : List ℕ} {m′ : Mark} → Shows w₀ (turn f (Atom p (end - p))) now m′ → Shows w₀ (turn f i) now m′
-    atom-told {now} {m′} x = subst (λ (j : ParsedItem). Shows w₀ (turn f j) now m′) (sym by-end) x
+    pub atom-shows : {now : List ℕ} {m′ : Mark} → Shows w₀ (turn f (Atom p (end - p))) now m′ → Shows w₀ (turn f i) now m′
+    atom-shows {now} {m′} x = subst (λ (j : ParsedItem). Shows w₀ (turn f j) now m′) (sym by-end) x
 
     atom-turn : turn f i ≡ attach f (atom p n)
     unfolding turn
@@ -73,8 +73,8 @@ module _ {w₀ words : List ℕ} {f : Frames} {m : Mark} (h : Shows w₀ (inside
     pub start-fits : Fits (length words) f (ListStart p) end
     start-fits = subst (λ (j : ParsedItem). Fits (length words) f j end) t u
 
-    pub start-told : {now : List ℕ} {m′ : Mark} → Shows w₀ (turn f (ListStart p)) now m′ → Shows w₀ (turn f i) now m′
-    start-told {now} {m′} x = subst (λ (j : ParsedItem). Shows w₀ (turn f j) now m′) (sym t) x
+    pub start-shows : {now : List ℕ} {m′ : Mark} → Shows w₀ (turn f (ListStart p)) now m′ → Shows w₀ (turn f i) now m′
+    start-shows {now} {m′} x = subst (λ (j : ParsedItem). Shows w₀ (turn f j) now m′) (sym t) x
 
     start-turn : turn f i ≡ inside (f ▹ empty)
     unfolding turn

@@ -5,6 +5,7 @@ pub mod LocalLaws
 pub mod LocalSteps
 pub mod PathLaws
 pub mod ReadSteps
+pub mod PlainItems
 pub mod ParseSteps
 pub mod FillingLaws
 pub mod FillingParts
@@ -15,3 +16,5 @@ pub mod ParseLaws
 pub mod FillingLoop
 pub mod FillingPlain
 pub mod ParseCases
+pub mod Lossless
+pub mod TextLimit

@@ -3,25 +3,25 @@
 use Prim.Native.Nat.{ℕ, _+_, _-_, _≤_}
 use native.Mathlib.Omega.{arith}
 use mathlib.Core.Path.{_≡_, refl, sym, ap, _∙_}
-use mathlib.Core.Bool.{Bool, true, false, false≢true, cond}
+use mathlib.Core.Bool.{Bool, true, false, false≢true}
 use mathlib.Core.List.{List}
 use mathlib.Core.Logic.{_⊎_, inl, inr}
 use lib.Dec.{eqb}
 use lib.ListN.{length, drop}
-use borrow.Author.Tests.{eqb-true, eqb-false, ne-eqb}
+use borrow.Author.Tests.{eqb-true, eqb-false}
 use Rattle.sise_util.proofs.Ranges.{split}
-use Rattle.sise_parser.specs.Lexer.{Lexed, found, opening, closing, atom, between}
-use Rattle.sise_parser.specs.Reader.{reader, listsFit, item, next, tokenAt, inParsing, nextItem}
+use Rattle.sise_parser.specs.Lexer.{found, opening, closing, atom, between}
+use Rattle.sise_parser.specs.Reader.{reader, item, next, nextItem}
 use Rattle.sise_parser.specs.declared.reader.Phase.{Phase}
-use Rattle.sise_parser.specs.declared.reader.Phase.the-variants.{Beginning, Parsing, Finishing}
 use Rattle.sise_parser.specs.declared.reader.Reader.{Reader}
 use Rattle.sise_parser.specs.declared.reader.ParsedItem.{ParsedItem}
 use Rattle.sise_parser.specs.declared.reader.ParsedItem.the-variants.{Atom, ListStart, ListEnd}
-use Rattle.sise_parser.proofs.Calls.{sound-parts, next-parsing}
+use Rattle.sise_parser.proofs.Calls.{sound-parts}
 use Rattle.sise_tree.specs.Tree.{Node, list}
 use Rattle.sise_tree.specs.Tree as tree
 use Rattle.sise_tree.specs.ParseTree.{Frames, top, _▹_, Stage, inside, whole, closes, attach, close, turn, readStage, readNode}
 use Rattle.sise_tree.specs.Filling.{opened, Stands, readerAt}
+use Rattle.sise_tree.proofs.PlainItems as items
 use Rattle.sise_tree.proofs.ReadSteps.{Took, took, readOn, read-item}
 
 -- what an item makes of the number of open lists, the reader's and the node's
@@ -78,48 +78,24 @@ module _ (text : List ℕ) (r₀ : Reader) where
         let l = both-open i (opened f) (opened g) (r .lists) (q .lists) (r₀ .lists) (node-opens f i t) (reader-opens i k) (h .listed ∙ ap (λ (d : ℕ). r₀ .lists + d) (h .deep)) in
         record { reads = turned t; deep = z; listed = l ∙ ap (λ (d : ℕ). r₀ .lists + d) (sym z); sound = λ d. k .stays }
 
--- with a list open, a sound record is in the phase of parsing
-only-parsing : (h : Phase) (n : ℕ) → 1 ≤ n → listsFit h n ≡ true → h ≡ Parsing
-only-parsing Beginning n o e = absurd (omega (arith, eqb-true n 0 e))
-only-parsing Parsing n o e = refl
-only-parsing Finishing n o e = absurd (omega (arith, eqb-true n 0 e))
-
 -- a plain token at p, in a list
 module _ (text : List ℕ) (r₀ : Reader) {h : Phase} {f : Frames} {p depth : ℕ} (v : Stands text r₀ f (readerAt r₀ p h depth) depth) (some : depth ≡ 0 → ⊥) where
-  abbrev n : ℕ
-  n = r₀ .lists + depth
-
-  parsing : h ≡ Parsing
-  parsing = only-parsing h n (omega arith) (sound-parts (length text) (readerAt r₀ p h depth) (v .sound some) .fit)
+  some-open : r₀ .lists + depth ≡ 0 → ⊥
+  some-open z = some (omega arith)
 
   pub depth-within : depth ≤ p
   depth-within = omega (arith, sound-parts (length text) (readerAt r₀ p h depth) (v .sound some) .opened)
 
-  gives : {x : Lexed} → between (drop p text) p ≡ x → nextItem text (readerAt r₀ p h depth) ≡ inParsing n x
-  unfolding tokenAt
-  gives t = sym (next-parsing text (readerAt r₀ p h depth) (v .sound some) parsing (sym t))
-
-  -- the record that it leaves
-  leaves : (k : ℕ) {q m : ℕ} {i : ParsedItem} → m ≡ r₀ .lists + k → next (reader q Parsing m) (item i) ≡ next (readerAt r₀ q h k) (item i)
-  leaves k {q} {i = i} z = ap (λ (l : ℕ). next (reader q Parsing l) (item i)) z ∙ ap (λ (a : Phase). next (reader q a (r₀ .lists + k)) (item i)) (sym parsing)
-
   pub plain-atom : {k s q : ℕ} → between (drop p text) p ≡ found (atom k) s q → nextItem text (readerAt r₀ p h depth) ≡ next (readerAt r₀ q h depth) (item (Atom s k))
-  unfolding inParsing
-  plain-atom t = gives t ∙ leaves depth refl
+  plain-atom t = items.plain-atom text h p _ (v .sound some) some-open t
 
   pub plain-start : {s q : ℕ} → between (drop p text) p ≡ found opening s q → nextItem text (readerAt r₀ p h depth) ≡ next (readerAt r₀ q h (depth + 1)) (item (ListStart s))
-  unfolding inParsing
-  plain-start t = gives t ∙ leaves (depth + 1) (omega arith)
+  plain-start t = items.plain-start text h p _ (v .sound some) some-open t (omega arith)
 
   pub plain-end :
       {s q : ℕ} → between (drop p text) p ≡ found closing s q → (depth ≡ 1 → ⊥)
       → nextItem text (readerAt r₀ p h depth) ≡ next (readerAt r₀ q h (depth - 1)) (item (ListEnd s))
-  unfolding inParsing
-  plain-end {s} {q} t more =
-      let two : n ≡ 1 → ⊥ = λ z. absurd (omega arith) in
-      gives t
-      ∙ ap (λ (b : Bool). next (cond b (reader q Finishing 0) (reader q Parsing (n - 1))) (item (ListEnd s))) (ne-eqb n 1 two)
-      ∙ leaves (depth - 1) (omega arith)
+  plain-end t more = items.plain-end text h p _ (v .sound some) some-open t (λ z. more (omega (arith, some))) (omega (arith, some))
 
 -- so many lists are no more than the first ones, or than the text has bytes
 pub lists-within :

@@ -68,11 +68,12 @@ pub text-refusal : (words : List ℕ) → parseTree (40 ∷ 97 ∷ 32 ∷ 91 ∷
 unfolding parseTree parsed readNode readFrom readAnswer readStage turn close attach snoc nextItem nextIn isSound tokenAt inBeginning inParsing between comment plain string escape wrong classOf character byRows forms follow within
 text-refusal words = refl
 
--- `a` again, and from a position past the text
+-- `a` again
 pub over : (words : List ℕ) → parseTree (97 ∷ []) (reader 1 Finishing 0) words ≡ record { reader = reader 1 Finishing 0; answer = refusedWith 9; words = words }
 unfolding parseTree parsed readNode readFrom readAnswer nextItem nextIn isSound
 over words = refl
 
+-- from a position past the text: 11, where 9 would be due too
 pub past : (words : List ℕ) → parseTree (97 ∷ []) (reader 3 Finishing 0) words ≡ record { reader = reader 3 Finishing 0; answer = refusedWith 11; words = words }
 unfolding parseTree parsed readNode readFrom readAnswer nextItem nextIn isSound
 past words = refl

@@ -4,15 +4,13 @@ use Prim.Native.Nat.{ℕ}
 use mathlib.Core.Path.{_≡_, refl}
 use mathlib.Core.Option.{none, some}
 use mathlib.Core.List.{List, [], _∷_, _++_}
+use Rattle.sise_parser.specs.Examples.{workedText as text}
 use Rattle.sise_tree.specs.Tree.{Node, atom, list, empty, _then_, size, sizes, children, table, tables}
 use Rattle.sise_tree.specs.Decision.{guard, bind, row, ahead, only, decide}
 use Rattle.sise_tree.specs.IndexPath.{nodeAt, childAt, indexPath}
 use Rattle.sise_tree.specs.Answers.{answered, refusedWith}
 
--- `(z (+1 "a b") ~)`
-abbrev pub text : List ℕ
-text = 40 ∷ 122 ∷ 32 ∷ 40 ∷ 43 ∷ 49 ∷ 32 ∷ 34 ∷ 97 ∷ 32 ∷ 98 ∷ 34 ∷ 41 ∷ 32 ∷ 126 ∷ 41 ∷ []
-
+-- the tree of `(z (+1 "a b") ~)`
 abbrev pub worked : Node
 worked = list (atom 1 1 then (list (atom 4 2 then (atom 7 5 then empty)) then (atom 14 1 then empty)))
 
@@ -81,5 +79,5 @@ record Paths : Type 0 where
   noTree : indexPath (2 ∷ 1 ∷ 1 ∷ 1 ∷ []) text [] ≡ refusedWith 15
 
 paths : Paths
-unfolding indexPath nodeAt childAt decide row ahead only guard bind size sizes
+unfolding text indexPath nodeAt childAt decide row ahead only guard bind size sizes
 paths = record { emptyPath = refl; oneOne = refl; three = refl; zeroZero = refl; intoAtom = refl; noTree = refl }

@@ -16,3 +16,5 @@ pub mod Placing
 pub mod Rooms
 pub mod TreeRooms
 pub mod OnlyRoom
+pub mod Lossless
+pub mod TextLimit

@@ -22,6 +22,7 @@ use Rattle.sise_serializer.specs.declared.serializer.Put.the-variants as put
 use Rattle.sise_serializer.specs.declared.serializer.Serializer.{Serializer}
 use Rattle.sise_serializer.specs.declared.steps.Progress.{Progress}
 use Rattle.sise_serializer.proofs.Sound.{sound, small, writing-lists}
+use Rattle.sise_serializer.proofs.Kept.{sound-kept}
 use Rattle.sise_serializer.proofs.Does.{put-sound, put-in, begin-sound, begin-too-deep, end-sound, finish-sound}
 use Rattle.sise_serializer.specs.Calls.{largest, Call, putAtomCall, beginListCall, endListCall, finishCall, step, run}
 use Rattle.sise_tree.specs.Tree.{Node, depth, kind, first, second, span}
@@ -37,7 +38,7 @@ use Rattle.sise_tree_writer.proofs.CallLaws.{call-list, call-atom, fits
 use Rattle.sise_tree_writer.proofs.Walk.{pending, closes-open, walk-deep}
 use Rattle.sise_tree_writer.proofs.Sizes.{lastAfter, last-sized}
 use Rattle.sise_tree_writer.proofs.WalkCalls.{Makes, Left, left-start, goes-more, left-few, left-ready, turn-off, turn-passable, turn-less, turn-on, at-end, last-due}
-use Rattle.sise_tree_writer.proofs.SoundSteps.{in-writing, turn-sound}
+use Rattle.sise_tree_writer.proofs.SoundSteps.{in-writing}
 use Rattle.sise_tree_writer.proofs.MeasuredTurns.{Leads, led-on, led-off, part-length, turn-leads}
 
 -- ---- calls that are refused before they are measured
@@ -184,12 +185,7 @@ module _ {s : Style} {text words : List ℕ} {t : ℕ} {finish : Bool} {room : �
 
               pub gauge-on : {a′ : ℕ} → a′ ≡ cond (place .begins) largest t → Gauged s text words t finish room w₀ e p′ flags′ ends′ (place .open) (place .i) a′ x
               gauge-on c = record {
-                sound =
-                    rw behind
-                    (turn-sound b k w (h .sound) closes n isList at gauge-open (λ y. size ∙ begins-one words i closes (sym list ∙ y))
-                    (λ f y. let (c, d) = begins-kind words i closes (sym list ∙ y) in not-full words i (p .lists) closes space c d)
-                    (omega (arith, token-pos text words i closes gauge-ready))
-                    (let z : turnAfter closes b k w n isList at .position ≡ p′ .position = ap (λ (v : Serializer). v .position) (sym behind) in omega arith));
+                sound = ap isSound (made .serializer) ∙ sound-kept s (length buffer) w (turnCall closes text words a t i) (h .sound);
                 left = turn-on (h .left) told g made refl refl m past c;
               }
 

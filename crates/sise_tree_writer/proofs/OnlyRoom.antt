@@ -27,11 +27,8 @@ use Rattle.sise_tree.specs.ParseTree.{longest}
 use Rattle.sise_tree.specs.Answers.{refusedWith}
 use Rattle.sise_tree_writer.specs.SerializeTree.{nodeCalls, rowCalls, treeCalls, atomsHold, atomsHoldAll, fits, refuse, written, isOver, writeNode, writeTree, serializeTree}
 use Rattle.sise_tree_writer.specs.Writing.{textCalls}
-use Rattle.sise_tree_writer.specs.Measuring.{clip, nodeAfter, turnAfter}
 use Rattle.sise_tree_writer.proofs.CallLaws.{checked-atom, fits-off}
-use Rattle.sise_tree_writer.proofs.Measuring.{turn-node}
-use Rattle.sise_tree_writer.proofs.Sizes.{Sized, first-atom-sized, first-list-sized, inner-sized, close-sized}
-use Rattle.sise_tree_writer.proofs.SoundSteps.{turn-sound}
+use Rattle.sise_tree_writer.proofs.SoundSteps.{puts-sound}
 use Rattle.sise_tree_writer.proofs.Placing.{placed, not-placed, puts-place, put-fits}
 use Rattle.sise_tree_writer.proofs.WalkDoes.{no-answer}
 use Rattle.sise_tree_writer.proofs.TreeRooms.{same-number, on-answer}
@@ -55,55 +52,26 @@ Only22 s room w cs = firstRefusal s room w cs ≡ cond (fits s room w cs) none (
 no : {A : Type 0} → false ≡ true → A
 no e = absurd (false≢true e)
 
--- an atom has a byte
-some-bytes : (a : List ℕ) → isAtom a ≡ true → 1 ≤ length a
-unfolding isAtom
-some-bytes [] h = no h
-some-bytes (b ∷ a) h = omega arith
-
--- by the record that the piece's sizes give
-sized-sound : {w : Serializer} {p : Piece} {n : ℕ} {v : Serializer} → Sized w p n v → endOf w p ≤ limit → (v .position ≤ limit → isSound v ≡ true) → isSound (p .after) ≡ true
-sized-sound {v = v} k e f =
-    split (leb (v .position) limit)
-    (λ h. let le = leb-true (v .position) limit h in ap isSound (k .same le .0) ∙ f le)
-    (λ h. absurd (omega (arith, k .over (leb-false (v .position) limit h))))
-
 -- a sound record in this phase, with so many lists open
 record At (f : Phase) (d : ℕ) (w : Serializer) : Type 0 where
   sound : isSound w ≡ true
   phase : w .phase ≡ f
   lists : w .lists ≡ d
 
--- the sizes of the style's strings
-abbrev b : Style → ℕ
-b s = clip (length (s .lineBreak))
-
-abbrev i : Style → ℕ
-i s = clip (length (s .indentation))
-
-module _ (s : Style) {f : Phase} {d : ℕ} {w : Serializer} (at : At f d w) where
-  -- the record that a node's sizes give
-  node-sound : (n : ℕ) (isList : Bool) (t : ℕ) → (isList ≡ true → n ≡ 1) → (f ≡ Writing → isList ≡ true → d < deepest) → 1 ≤ n
-      → nodeAfter f (b s) (i s) w n isList t .position ≤ limit → isSound (nodeAfter f (b s) (i s) w n isList t) ≡ true
-  node-sound n isList t z r one q =
-      let y = turn-node (b s) (i s) w n isList t refl (at .phase) in
-      ap isSound (sym y)
-      ∙ turn-sound (b s) (i s) w (at .sound) false n isList t no z (λ g k. omega (arith, at .lists, r (sym (at .phase) ∙ g) k)) one (rw y q)
-
 -- the first item
 module _ (s : Style) {w : Serializer} (at : At Beginning 0 w) where
   after-first-atom : (a : List ℕ) → isAtom a ≡ true → endOf w (firstAtom w a) ≤ limit → At Finished 0 (firstAtom w a .after)
-  unfolding firstAtom nodeAfter
+  unfolding firstAtom
   after-first-atom a g e = record {
-    sound = sized-sound (first-atom-sized w a) e (node-sound s at (length a) false 0 no (λ _. no) (some-bytes a g));
+    sound = puts-sound {s = s} (at .sound) (atomAlone {t = 0} (at .phase) g) e;
     phase = refl;
     lists = refl;
   }
 
   after-first-list : endOf w (firstList w) ≤ limit → At Writing 1 (firstList w .after)
-  unfolding firstList nodeAfter
+  unfolding firstList
   after-first-list e = record {
-    sound = sized-sound (first-list-sized w) e (node-sound s at 1 true 0 (λ _. refl) (λ g k. let z : _≡_ {A = ℕ} 0 1 = cc in absurd (omega arith)) (omega arith));
+    sound = puts-sound {s = s} (at .sound) (listFirst {t = 0} (at .phase)) e;
     phase = refl;
     lists = refl;
   }
@@ -111,25 +79,25 @@ module _ (s : Style) {w : Serializer} (at : At Beginning 0 w) where
 -- an item in a list, and a list's end
 module _ (s : Style) {d : ℕ} {w : Serializer} (at : At Writing d w) where
   after-atom : (a : List ℕ) (t : ℕ) → isAtom a ≡ true → endOf w (inner s w a false t) ≤ limit → At Writing d (inner s w a false t .after)
-  unfolding inner innerAs nodeAfter
+  unfolding inner innerAs
   after-atom a t g e = record {
-    sound = sized-sound (inner-sized w s a false t) e (node-sound s at (length a) false t no (λ _. no) (some-bytes a g));
+    sound = puts-sound {s = s} (at .sound) (atomInside {t = t} (at .phase) g) e;
     phase = refl;
     lists = at .lists;
   }
 
   after-list : (t : ℕ) → d < deepest → endOf w (inner s w (40 ∷ []) true t) ≤ limit → At Writing (d + 1) (inner s w (40 ∷ []) true t .after)
-  unfolding inner innerAs nodeAfter
+  unfolding inner innerAs
   after-list t r e = record {
-    sound = sized-sound (inner-sized w s (40 ∷ []) true t) e (node-sound s at 1 true t (λ _. refl) (λ _ _. r) (omega arith));
+    sound = puts-sound {s = s} (at .sound) (listInside {t = t} (at .phase) (omega (arith, at .lists))) e;
     phase = refl;
     lists = ap (λ (n : ℕ). n + 1) (at .lists);
   }
 
   after-end : endOf w (close s w) ≤ limit → At (phaseAfter (d - 1)) (d - 1) (close s w .after)
-  unfolding close closeAs turnAfter
+  unfolding close closeAs
   after-end e = record {
-    sound = sized-sound (close-sized w s) e (turn-sound (b s) (i s) w (at .sound) true 1 false 0 (λ _. writing-lists w (at .sound) (at .phase)) (λ _. refl) (λ _. no) (omega arith));
+    sound = puts-sound {s = s} (at .sound) (listClosed (at .phase)) e;
     phase = ap (λ (n : ℕ). phaseAfter (n - 1)) (at .lists);
     lists = ap (λ (n : ℕ). n - 1) (at .lists);
   }

@@ -1,5 +1,5 @@
--- What a tree comes to in one buffer, written or measured, tells of every other: if it is written there and leaves the position n, each buffer of n bytes or
--- more has the same record, answer and bytes, and each shorter one 22; and what 16,777,216 bytes refuse, every buffer refuses with the same number.
+-- What a tree call does in one buffer, written or measured, decides what it does in every other: if it is written there and leaves the position n, each buffer of
+-- n bytes or more has the same record, answer and bytes, and each shorter one 22; and what 16,777,216 bytes refuse, every buffer refuses with the same number.
 -- Assumes nothing.
 use Prim.Native.Nat.{ℕ, _+_, _≤_, _<_}
 use native.Mathlib.Omega.{arith}
@@ -23,15 +23,15 @@ use Rattle.sise_tree_writer.proofs.WalkDoes.{no-answer}
 use Rattle.sise_tree_writer.proofs.Placing.{fits-lands}
 use Rattle.sise_tree_writer.proofs.Rooms.{lands-answers, exact-room, alike, larger, text-alike}
 
--- the answer of what is the same
-told : {d d′ : Writes} {a : Answer} → d ≡ d′ → d .answer ≡ a → d′ .answer ≡ a
-told e h = sym (ap (λ (x : Writes). x .answer) e) ∙ h
+-- what is the same has the same answer
+same-answer : {d d′ : Writes} {a : Answer} → d ≡ d′ → d .answer ≡ a → d′ .answer ≡ a
+same-answer e h = sym (ap (λ (x : Writes). x .answer) e) ∙ h
 
 pub same-number : {n k : ℕ} → refusedWith n ≡ refusedWith k → n ≡ k
 same-number e = ap numberOf e
 
--- what d, written in one buffer, tells of d′ in the buffer b′: with room for its bytes record and answer are the same, and else it is refused with 22
-pub record Foretells (w : Serializer) (d d′ : Writes) (b′ : List ℕ) : Type 0 where
+-- d′, in the buffer b′, is as d, in another: with room for its bytes record and answer are the same, and else it is refused with 22
+pub record SameWithRoom (w : Serializer) (d d′ : Writes) (b′ : List ℕ) : Type 0 where
   pub serializer : d .serializer .position ≤ length b′ → d′ .serializer ≡ d .serializer
   pub answer : d .serializer .position ≤ length b′ → d′ .answer ≡ d .answer
   pub short : length b′ < d .serializer .position → d′ ≡ refuse 22 b′ w
@@ -55,8 +55,8 @@ module _ (s : Style) (b : List ℕ) (w : Serializer) where
       (w .position + length (k .piece .layout), ap (λ (x : Writes). x .answer) (written-on (c ∷ cs) f) ∙ ap firstOffset (lands-answers s b w c k cs))
 
 module _ (s : Style) (b b′ : List ℕ) (w : Serializer) where
-  more-foretold : (c : Call) (cs : List Call) → fits s (length b) w (c ∷ cs) ≡ true → Foretells w (written s b w (c ∷ cs)) (written s b′ w (c ∷ cs)) b′
-  more-foretold c cs f =
+  more-measured : (c : Call) (cs : List Call) → fits s (length b) w (c ∷ cs) ≡ true → SameWithRoom w (written s b w (c ∷ cs)) (written s b′ w (c ∷ cs)) b′
+  more-measured c cs f =
       let l = c ∷ cs in
       let n = run s b w l .last .position in
       let fit : n ≤ length b′ → written s b′ w l ≡ all s b′ w l = λ le. written-on s b′ w l (exact-room s b w c cs f (length b′) ∙ le-leb n (length b′) le) in
@@ -68,11 +68,11 @@ module _ (s : Style) (b b′ : List ℕ) (w : Serializer) where
       })
 
   -- calls that answer an offset in the buffer b
-  pub written-foretold : (cs : List Call) {o : ℕ} → written s b w cs .answer ≡ answered o → Foretells w (written s b w cs) (written s b′ w cs) b′
-  written-foretold [] h = unfold written fits run in no-answer h
-  written-foretold (c ∷ cs) h =
-      split (fits s (length b) w (c ∷ cs)) (λ f. more-foretold c cs f)
-      (λ f. no-answer (told (written-off s b w (c ∷ cs) f) h))
+  pub written-measured : (cs : List Call) {o : ℕ} → written s b w cs .answer ≡ answered o → SameWithRoom w (written s b w cs) (written s b′ w cs) b′
+  written-measured [] h = unfold written fits run in no-answer h
+  written-measured (c ∷ cs) h =
+      split (fits s (length b) w (c ∷ cs)) (λ f. more-measured c cs f)
+      (λ f. no-answer (same-answer (written-off s b w (c ∷ cs) f) h))
 
   -- calls that a buffer of 16,777,216 bytes or more refuses, each buffer refuses
   pub written-refused : (cs : List Call) {k : ℕ} → limit ≤ length b → written s b w cs .answer ≡ refusedWith k → written s b′ w cs ≡ refuse k b′ w
@@ -81,7 +81,7 @@ module _ (s : Style) (b b′ : List ℕ) (w : Serializer) where
       split (fits s (length b) w (c ∷ cs))
       (λ f. let (o, e) = on-answer s b w c cs f in no-answer (sym h ∙ e))
       (λ f.
-      let z = same-number (told (written-off s b w (c ∷ cs) f) h) in
+      let z = same-number (same-answer (written-off s b w (c ∷ cs) f) h) in
       let off = split (fits s (length b′) w (c ∷ cs)) (λ g. absurd (false≢true (sym f ∙ larger s (c ∷ cs) w b′ b (omega arith) g .0))) (λ g. g) in
       written-off s b′ w (c ∷ cs) off ∙ ap (λ (n : ℕ). refuse n b′ w) z)
 
@@ -102,7 +102,7 @@ written-bytes s b b′ (c ∷ cs) h le =
     let n = run s b w l .last .position in
     let f′ = exact-room s b w c cs f (length b′) ∙ le-leb n (length b′) (rw on at le) in
     ap bytesIn on ∙ text-alike s l b b′ f f′ ∙ sym (ap bytesIn (written-on s b′ w l f′)))
-    (λ f. no-answer (told (written-off s b w l f) h))
+    (λ f. no-answer (same-answer (written-off s b w l f) h))
 
 -- ---- a tree
 
@@ -128,18 +128,18 @@ module _ (s : Style) (w : Serializer) (text : List ℕ) (calls : Node → List C
       split (ltb longest (length text)) (λ e. refused 13 (λ b. rw e))
       (λ e. split (isSound w) (λ f. rw (e, f) (node-comes (decide (length text) words))) (λ f. refused 11 (λ b. rw (e, f))))
 
-  foretold-of : (d : List ℕ → Writes) → Comes s w calls d → (b b′ : List ℕ) {o : ℕ} → d b .answer ≡ answered o → Foretells w (d b) (d b′) b′
-  foretold-of d (refused k e) b b′ h = no-answer (told (e b) h)
-  foretold-of d (made n e) b b′ h = rw (e b, e b′) (written-foretold s b b′ w (calls n) (told (e b) h))
+  measured-of : (d : List ℕ → Writes) → Comes s w calls d → (b b′ : List ℕ) {o : ℕ} → d b .answer ≡ answered o → SameWithRoom w (d b) (d b′) b′
+  measured-of d (refused k e) b b′ h = no-answer (same-answer (e b) h)
+  measured-of d (made n e) b b′ h = rw (e b, e b′) (written-measured s b b′ w (calls n) (same-answer (e b) h))
 
   refused-of : (d : List ℕ → Writes) → Comes s w calls d → (b b′ : List ℕ) {k : ℕ} → limit ≤ length b → d b .answer ≡ refusedWith k → d b′ ≡ refuse k b′ w
-  refused-of d (refused n e) b b′ le h = e b′ ∙ ap (λ (m : ℕ). refuse m b′ w) (same-number (told (e b) h))
-  refused-of d (made n e) b b′ le h = e b′ ∙ written-refused s b b′ w (calls n) le (told (e b) h)
+  refused-of d (refused n e) b b′ le h = e b′ ∙ ap (λ (m : ℕ). refuse m b′ w) (same-number (same-answer (e b) h))
+  refused-of d (made n e) b b′ le h = e b′ ∙ written-refused s b b′ w (calls n) le (same-answer (e b) h)
 
   module _ (b words b′ : List ℕ) where
     -- a tree call that answers an offset in the buffer b
-    pub tree-foretold : {o : ℕ} → writeTree s b w text words calls .answer ≡ answered o → Foretells w (writeTree s b w text words calls) (writeTree s b′ w text words calls) b′
-    tree-foretold h = foretold-of (λ x. writeTree s x w text words calls) (tree-comes words) b b′ h
+    pub tree-measured : {o : ℕ} → writeTree s b w text words calls .answer ≡ answered o → SameWithRoom w (writeTree s b w text words calls) (writeTree s b′ w text words calls) b′
+    tree-measured h = measured-of (λ x. writeTree s x w text words calls) (tree-comes words) b b′ h
 
     -- a tree call that a buffer of 16,777,216 bytes or more refuses, each buffer refuses with the same number
     pub tree-refused : {k : ℕ} → limit ≤ length b → writeTree s b w text words calls .answer ≡ refusedWith k → writeTree s b′ w text words calls ≡ refuse k b′ w
@@ -151,10 +151,10 @@ module _ (s : Style) (text : List ℕ) (calls : Node → List Call) (b words b�
   whole x = writeTree s x freshSerializer text words calls
 
   bytes-of : Comes s freshSerializer calls whole → {o : ℕ} → whole b .answer ≡ answered o → whole b .serializer .position ≤ length b′ → bytesIn (whole b) ≡ bytesIn (whole b′)
-  bytes-of (refused k e) h le = no-answer (told (e b) h)
+  bytes-of (refused k e) h le = no-answer (same-answer (e b) h)
   bytes-of (made n e) h le =
       ap bytesIn (e b)
-      ∙ written-bytes s b b′ (calls n) (told (e b) h) (rw (e b) at le)
+      ∙ written-bytes s b b′ (calls n) (same-answer (e b) h) (rw (e b) at le)
       ∙ sym (ap bytesIn (e b′))
 
   pub tree-bytes : {o : ℕ} → writeTree s b freshSerializer text words calls .answer ≡ answered o → writeTree s b freshSerializer text words calls .serializer .position ≤ length b′

@@ -105,7 +105,7 @@ unfolding firstAnswer run
 first-offset s b w [] h = let z : _≡_ {A = ℕ} 0 1 = cc in absurd (omega arith)
 first-offset s b w (c ∷ cs) h = rw h
 
--- what was measured in room bytes is what a buffer of so many bytes is told
+-- what was measured in room bytes is what holds of a buffer of so many bytes
 module _ {s : Style} {room : ℕ} {w : Serializer} {deep : ℕ} {cs : List Call} {flags : List Bool} (b : List ℕ) (long : length b ≡ room) where
   pub measured-fits : {p : Progress} {o : ℕ} {m : Measured} {v : Serializer} → Measures s room w deep cs flags m → m ≡ Fits p o → v ≡ joined p flags
       → DoesMeasure (judged s b w deep cs) (record { serializer = v; answer = At o })

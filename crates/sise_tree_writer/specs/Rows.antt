@@ -1,23 +1,19 @@
--- The examples of document 01's table of refusals that are proved, rows 1 to 10 and 16 to 19, as one table; and row 13, whose text is too long to run.
+-- The examples of document 01's table of refusals that are proved, rows 1 to 10 and 16 to 19, as one table.
 -- Assumes nothing.
-use Prim.Native.Nat.{ℕ}
-use mathlib.Core.Path.{_≡_, refl, ap, _∙_}
-use mathlib.Core.Bool.{true}
+use mathlib.Core.Path.{_≡_, refl}
 use mathlib.Core.List.{List, [], _∷_, _++_, map}
-use lib.Dec.{ltb}
-use lib.ListN.{length, replicate, length-replicate}
+use lib.ListN.{replicate}
 use Rattle.sise_util.specs.Chars.{isAtomChr, within}
 use Rattle.sise_util.specs.Classes.{classOf}
 use Rattle.sise_parser.specs.Refusals.{Refusal, refusal}
 use Rattle.sise_parser.specs.Lexer.{wrong, between, comment, plain, string, escape}
 use Rattle.sise_parser.specs.Reader.{freshReader, isSound, tokenAt, inBeginning, inParsing, nextIn, nextItem}
-use Rattle.sise_parser.specs.declared.reader.Reader.{Reader}
 use Rattle.sise_parser.specs.Examples.{rows1to10, rows-1-to-10}
 use Rattle.sise_serializer.specs.Serializer as writer
 use Rattle.sise_serializer.specs.Examples.{rows17to19, rows-17-to-19}
 use Rattle.sise_tree.specs.Tree.{size, table}
 use Rattle.sise_tree.specs.Decision.{guard, bind, ahead, row, only, decide}
-use Rattle.sise_tree.specs.ParseTree.{attach, turn, readStage, readAnswer, readFrom, readNode, filledWith, parsed, parseTree, Parses, longest}
+use Rattle.sise_tree.specs.ParseTree.{attach, turn, readStage, readAnswer, readFrom, readNode, filledWith, parsed, parseTree}
 use Rattle.sise_tree.specs.IndexPath.{nodeAt, indexPath}
 use Rattle.sise_tree.specs.Answers.{Answer, answered, refused, refusedWith}
 
@@ -60,11 +56,3 @@ pub proved-rows : rows ≡
     []
 unfolding rows
 proved-rows = rw (rows-1-to-10, row-16, rows-17-to-19)
-
--- row 13: a text over the limit, with any reader and any table; 16,777,217 spaces are one
-pub too-long : (text : List ℕ) (r : Reader) (words : List ℕ) → ltb longest (length text) ≡ true → parseTree text r words ≡ record { reader = r; answer = refusedWith 13; words = words }
-unfolding parseTree
-too-long text r words h = rw h
-
-pub row-13 : (n : ℕ) → n ≡ 16777217 → (r : Reader) (words : List ℕ) → parseTree (replicate n 32) r words .answer ≡ refusedWith 13
-row-13 n e r words = ap (λ (p : Parses). p .answer) (too-long (replicate n 32) r words (ap (λ (m : ℕ). ltb longest m) (length-replicate n 32 ∙ e)))

@@ -9,6 +9,7 @@ use Rattle.sise_util.specs.Chars.{within, oneOf, isAtomChr, marks}
 use Rattle.sise_util.specs.Classes.{classOf}
 use Rattle.sise_util.specs.Atom.{isAtom, outside, inside, escaped, isAtomPrefix}
 use Rattle.sise_parser.specs.Reader.{partOf}
+use Rattle.sise_parser.specs.Examples.{workedText as text}
 use Rattle.sise_serializer.specs.Bytes.{pasted}
 use Rattle.sise_serializer.specs.Serializer.{deepest, freshSerializer, isSound, place, firstAtom, firstList, laid, innerAs, inner, phaseAfter, flagsAfter, closeAs, close, last, putIn, putAtom, beginIn, beginList, endIn, endList, finishIn, finishWriting}
 use Rattle.sise_serializer.specs.declared.serializer.Phase.the-variants.{Writing}
@@ -16,7 +17,7 @@ use Rattle.sise_serializer.specs.declared.serializer.Serializer.{Serializer}
 use Rattle.sise_serializer.specs.Calls.{largest, step, run}
 use Rattle.sise_tree.specs.Tree.{size, sizes, children, depth, depths, table, tables}
 use Rattle.sise_tree.specs.Decision.{guard, bind, row, ahead, only, decide}
-use Rattle.sise_tree.specs.TableExamples.{text, worked as tree}
+use Rattle.sise_tree.specs.TableExamples.{worked as tree}
 use Rattle.sise_tree.specs.Answers.{Answer, answered, refusedWith}
 use Rattle.sise_tree_writer.specs.SerializeTree.{nodeCalls, rowCalls, atomsHold, atomsHoldAll, fits, Writes, written, writeNode, writeTree, serializeTree, houseStyle, houseCalls, houseTree}
 
@@ -37,6 +38,10 @@ full = record {
   breaks = 0;
   indents = 0;
 }
+
+-- a record after its one atom, `a`
+unfoldable finished : Serializer
+finished = firstAtom freshSerializer (97 ∷ []) .after
 
 -- what stands in the buffer up to the position, and the answer
 record Shown : Type 0 where
@@ -59,7 +64,7 @@ record Written : Type 0 where
   atomInHouse : shown (houseTree (used 2) (97 ∷ []) (1 ∷ 0 ∷ 1 ∷ 1 ∷ [])) ≡ record { text = 97 ∷ 10 ∷ []; answer = answered 0 }
 
 written-so : Written
-unfolding shown serializeTree houseTree houseStyle houseCalls writeTree writeNode written fits nodeCalls rowCalls atomsHold atomsHoldAll isAtomPrefix partOf decide row ahead only guard bind size sizes children depth depths table tables run step pasted freshSerializer isSound place firstAtom firstList laid innerAs inner phaseAfter flagsAfter closeAs close last putIn putAtom beginIn beginList endIn endList finishIn finishWriting isAtom outside inside escaped classOf isAtomChr marks oneOf within
+unfolding text shown serializeTree houseTree houseStyle houseCalls writeTree writeNode written fits nodeCalls rowCalls atomsHold atomsHoldAll isAtomPrefix partOf decide row ahead only guard bind size sizes children depth depths table tables run step pasted freshSerializer isSound place firstAtom firstList laid innerAs inner phaseAfter flagsAfter closeAs close last putIn putAtom beginIn beginList endIn endList finishIn finishWriting isAtom outside inside escaped classOf isAtomChr marks oneOf within
 written-so = record { unbroken = refl; inHouse = refl; atomInHouse = refl }
 
 record Refusals : Type 0 where
@@ -71,7 +76,11 @@ record Refusals : Type 0 where
   tooDeep : serializeTree houseStyle [] full text (0 ∷ 0 ∷ 0 ∷ 1 ∷ []) 0 .answer ≡ refusedWith 21
   -- 15 before 17
   noTree : serializeTree houseStyle [] freshSerializer text (0 ∷ 1 ∷ 0 ∷ 3 ∷ 1 ∷ 1 ∷ 0 ∷ 1 ∷ []) 0 .answer ≡ refusedWith 15
+  -- 17 before 19
+  zeroLengthFinished : serializeTree houseStyle [] finished text (1 ∷ 1 ∷ 0 ∷ 1 ∷ []) 0 .answer ≡ refusedWith 17
+  -- 19 before 22
+  isFinished : serializeTree houseStyle [] finished text (1 ∷ 1 ∷ 1 ∷ 1 ∷ []) 0 .answer ≡ refusedWith 19
 
 refusals : Refusals
-unfolding shown full serializeTree houseTree houseStyle houseCalls writeTree writeNode written fits nodeCalls rowCalls atomsHold atomsHoldAll isAtomPrefix partOf decide row ahead only guard bind size sizes children depth depths table tables run step pasted freshSerializer isSound place firstAtom firstList laid innerAs inner phaseAfter flagsAfter closeAs close last putIn putAtom beginIn beginList endIn endList finishIn finishWriting isAtom outside inside escaped classOf isAtomChr marks oneOf within
-refusals = record { oneByteShort = refl; zeroLength = refl; tooDeep = refl; noTree = refl }
+unfolding text shown full finished serializeTree houseTree houseStyle houseCalls writeTree writeNode written fits nodeCalls rowCalls atomsHold atomsHoldAll isAtomPrefix partOf decide row ahead only guard bind size sizes children depth depths table tables run step pasted freshSerializer isSound place firstAtom firstList laid innerAs inner phaseAfter flagsAfter closeAs close last putIn putAtom beginIn beginList endIn endList finishIn finishWriting isAtom outside inside escaped classOf isAtomChr marks oneOf within
+refusals = record { oneByteShort = refl; zeroLength = refl; tooDeep = refl; noTree = refl; zeroLengthFinished = refl; isFinished = refl }

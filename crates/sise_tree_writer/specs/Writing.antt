@@ -1,4 +1,4 @@
--- What the private functions of the tree's writing do.
+-- A whole text written, and what the private functions of the tree's writing do.
 -- Assumes nothing.
 use Prim.Native.Nat.{ℕ, _+_, _-_, _*_, _≤_, _<_}
 use mathlib.Core.Path.{_≡_}
@@ -10,13 +10,13 @@ use lib.ListN.{length, getD, drop, set}
 use Rattle.sise_util.specs.Atom.{isAtom, isAtomPrefix}
 use Rattle.sise_parser.specs.Reader.{partOf}
 use Rattle.sise_serializer.specs.Serializer as writer
-use Rattle.sise_serializer.specs.Serializer.{Style, deepest}
+use Rattle.sise_serializer.specs.Serializer.{Style, deepest, freshSerializer}
 use Rattle.sise_serializer.specs.declared.serializer.Serializer.{Serializer}
 use Rattle.sise_serializer.specs.Calls.{Call, putAtomCall, beginListCall, endListCall, finishCall, step}
 use Rattle.sise_tree.specs.Tree.{Node, kind, first, second, span}
 use Rattle.sise_tree_writer.specs.declared.serialize.Place.{Place}
 use Rattle.sise_tree.specs.Decision.{decide, isSome}
-use Rattle.sise_tree_writer.specs.SerializeTree.{treeCalls, atomsHold}
+use Rattle.sise_tree_writer.specs.SerializeTree.{treeCalls, atomsHold, Writes, writeTree}
 
 -- a finish with a line break, if wished
 abbrev pub lastCalls : Bool → List Call
@@ -27,6 +27,10 @@ lastCalls false = []
 unfoldable pub textCalls : List ℕ → ℕ → Bool → Node → List Call
 textCalls text t true = λ n. treeCalls text t n ++ finishCall true ∷ []
 textCalls text t false = treeCalls text t
+
+-- a whole text, from a fresh record: the tree that the table holds, and that finish
+abbrev pub writeText : Style → List ℕ → List ℕ → List ℕ → ℕ → Bool → Writes
+writeText s buffer text words t finish = writeTree s buffer freshSerializer text words (textCalls text t finish)
 
 -- node i is in the table, and if an atom, in the text
 pub record InTable (text words : List ℕ) (i : ℕ) : Type 0 where

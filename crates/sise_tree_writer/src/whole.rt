@@ -7,9 +7,9 @@ ghost use mathlib.Core.Path.{_≡_};
 ghost use mathlib.Core.List.{List};
 ghost use Prim.Native.Nat.{ℕ};
 ghost use lib.ListN.{length};
-ghost use Rattle.sise_serializer.specs.Serializer.{style, freshSerializer};
-ghost use Rattle.sise_tree_writer.specs.SerializeTree.{writeTree, DoesWrite, DoesMeasure};
-ghost use Rattle.sise_tree_writer.specs.Writing.{textCalls};
+ghost use Rattle.sise_serializer.specs.Serializer.{style};
+ghost use Rattle.sise_tree_writer.specs.SerializeTree.{DoesWrite, DoesMeasure};
+ghost use Rattle.sise_tree_writer.specs.Writing.{writeText};
 
 // Writes a whole text: the tree that the table holds over `text`, and a line break behind it if wished.
 pub fn write_text(
@@ -21,7 +21,7 @@ pub fn write_text(
     break_line_at: u64,
     final_break: bool,
 ) -> TreeWrote
-    ensures { λ r. ⌜ DoesWrite (writeTree (style (now («line_break» .entry)) (now (indentation .entry))) (now (buf .entry)) freshSerializer (now (text .entry)) (now (table .entry)) (textCalls (now (text .entry)) «break_line_at» «final_break»)) r (now (buf .exit)) ⌝ }
+    ensures { λ r. ⌜ DoesWrite (writeText (style (now («line_break» .entry)) (now (indentation .entry))) (now (buf .entry)) (now (text .entry)) (now (table .entry)) «break_line_at» «final_break») r (now (buf .exit)) ⌝ }
 {
     write_tree(
         Serializer::new(),
@@ -45,7 +45,7 @@ pub fn measure_text(
     break_line_at: u64,
     final_break: bool,
 ) -> TreeWrote
-    ensures { λ r. ⌜ ((b : List ℕ) → length b ≡ room → DoesMeasure (writeTree (style (now («line_break» .entry)) (now (indentation .entry))) b freshSerializer (now (text .entry)) (now (table .entry)) (textCalls (now (text .entry)) «break_line_at» «final_break»)) r) ⌝ }
+    ensures { λ r. ⌜ ((b : List ℕ) → length b ≡ room → DoesMeasure (writeText (style (now («line_break» .entry)) (now (indentation .entry))) b (now (text .entry)) (now (table .entry)) «break_line_at» «final_break») r) ⌝ }
 {
     measure_tree(
         Serializer::new(),

@@ -208,7 +208,7 @@ part-positive : {a : List ℕ} → Part a → 1 ≤ length a
 part-positive (single h) = omega arith
 part-positive (string i) = omega arith
 
-atom-positive : {a : List ℕ} → Atom a → 1 ≤ length a
+pub atom-positive : {a : List ℕ} → Atom a → 1 ≤ length a
 atom-positive (one p) = part-positive p
 atom-positive (more {a} {l} p t) = omega (arith, part-positive p, length-append a l)
 

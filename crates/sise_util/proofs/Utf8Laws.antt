@@ -9,11 +9,12 @@ use Prim.Native.Nat.{ℕ, zero, suc, _+_, _-_, _*_, _/_, _%_, _≤_, _<_, zero-l
 use native.Mathlib.Nat.{sub-zero, not-suc-le-zero, le-of-suc-le-suc}
 use native.Mathlib.Omega.{arith}
 use lib.Dec.{T, leb, ltb, leb→le, lit<}
-use lib.ListN.{length, take, drop, getD, length-append}
+use lib.ListN.{length, take, drop, getD, length-append, take-append-drop}
 use lib.Seq.{take-at, take-length, drop-at, drop-append-seam}
 use borrow.Author.Tests.{lt-ltb, le-ltb, ltb-true, ltb-false}
 use Rattle.sise_util.specs.Chars.{within}
 use Rattle.sise_util.specs.Utf8.{Range, range, tail, Form, form, forms, Fits, done, octet, Utf8Char, Utf8Octets, none, next, follow, byRows, character, octetsOf, Scalar}
+use Rattle.sise_util.specs.declared.utf8.Character.{Character}
 use Rattle.sise_util.specs.declared.utf8.Character.the-variants.{Well, Ill}
 use Rattle.sise_util.proofs.Ranges.{split, and-left, and-right}
 use Rattle.sise_util.proofs.Utf8Steps.{within-yes, within-no, within-from, within-to, Begins, rowOf, noForm}
@@ -108,7 +109,7 @@ record Read (rs : List Range) (c n : ℕ) (l : List ℕ) (d k : ℕ) : Type 0 wh
   code : d ≡ bitsOf c octets
   count : k ≡ n
 
-ill≢well : {d k : ℕ} → Ill ≡ Well d k → ⊥
+pub ill≢well : {d k : ℕ} → Ill ≡ Well d k → ⊥
 ill≢well e = let z : _≡_ {A = ℕ} 0 1 = cc in omega arith
 
 follow-hit : (r : Range) (rs : List Range) (c n b : ℕ) (l : List ℕ) → within (r .lo) (r .hi) b ≡ true → follow c n (r ∷ rs) (b ∷ l) ≡ follow (c * 64 + (b - 0x80)) n rs l
@@ -217,6 +218,17 @@ well-formed s = (
       subst Utf8Char (sym (all-of (x .octets) (x .left) s (x .parts) (x .count))) (record { row = x .row; listed = x .listed; fits = x .fits }),
   λ u. (codePoint (u .row) s, ap character (sym (append-nil s)) ∙ reads-char u []),
 )
+
+-- no character is well formed exactly where no prefix of the bytes matches a row
+pub ill-formed : (l : List ℕ) → (character l ≡ Ill) ↔ ((k : ℕ) → Utf8Char (take k l) → ⊥)
+ill-formed l = (λ e k u. ill≢well (sym e ∙ ap character (sym (take-append-drop k l)) ∙ reads-char u (drop k l)), λ h. go h (character l) refl)
+  where
+    go : ((k : ℕ) → Utf8Char (take k l) → ⊥) → (c : Character) → character l ≡ c → character l ≡ Ill
+    go h (Well c k) e =
+        let x = found l e in
+        let s : take k l ≡ x .octets = ap (take k) (x .parts) ∙ take-at (x .octets) (x .left) k (sym (x .count)) in
+        absurd (h k (subst Utf8Char (sym s) (record { row = x .row; listed = x .listed; fits = x .fits })))
+    go h Ill e = e
 
 -- the octets of a code point, by its size
 

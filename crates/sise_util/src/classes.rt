@@ -4,27 +4,15 @@ use crate::table::CLASSES;
 ghost use mathlib.Core.Path.{_≡_};
 ghost use Rattle.sise_util.specs.Classes.{classOf, classNumber, classTable};
 
-pub const SPACE: u8 = 0;
-
 pub const QUOTE: u8 = 1;
 
 pub const TAB: u8 = 2;
-
-pub const ATOM: u8 = 3;
 
 pub const LINE_END: u8 = 4;
 
 pub const BACKSLASH: u8 = 5;
 
 pub const OTHER: u8 = 6;
-
-pub const SEMICOLON: u8 = 7;
-
-pub const LEFT_PAREN: u8 = 8;
-
-pub const RIGHT_PAREN: u8 = 9;
-
-pub const PRINTABLE: u8 = 10;
 
 // A class number for each byte.
 pub type ClassTable = [u8; 256];

@@ -1,14 +1,14 @@
 // The characters of atoms and strings, and the check of an atom.
 ghost use mathlib.Core.Path.{_≡_};
-ghost use Rattle.sise_util.specs.Chars.{isAtomChr, isStringChr, isEscapedChr};
+ghost use Rattle.sise_util.specs.Chars.{oneOf, marks, isAtomChr, isStringChr, isEscapedChr};
 ghost use Prim.Native.Nat.{_<_};
 ghost use lib.ListN.{drop};
 ghost use Rattle.sise_util.specs.Atom.{inside, isAtom, isPlain, isAtomPrefix};
 ghost use Rattle.sise_util.specs.Parts.{afterString, maskOf};
 
-// Whether `chr` is an atom character outside a string.
-pub fn is_atom_chr(chr: u8) -> bool
-    ensures { λ r. ⌜ r ≡ isAtomChr chr ⌝ }
+// Whether `chr` is an atom character that is no letter and no digit.
+fn is_mark(chr: u8) -> bool
+    ensures { λ r. ⌜ r ≡ oneOf marks chr ⌝ }
 {
     match chr {
         b'!'
@@ -21,18 +21,28 @@ pub fn is_atom_chr(chr: u8) -> bool
         | b'-'
         | b'.'
         | b'/'
-        | b'0'..=b'9'
         | b':'
         | b'<'
         | b'='
         | b'>'
         | b'?'
         | b'@'
-        | b'A'..=b'Z'
         | b'_'
-        | b'a'..=b'z'
         | b'~' => true,
         _ => false,
+    }
+}
+
+// Whether `chr` is an atom character outside a string. Small letters come first and marks last: the compiler tests the values of one `match` from below.
+pub fn is_atom_chr(chr: u8) -> bool
+    ensures { λ r. ⌜ r ≡ isAtomChr chr ⌝ }
+{
+    match chr {
+        b'a'..=b'z' => true,
+        _ => match chr {
+            b'0'..=b'9' | b'A'..=b'Z' => true,
+            _ => is_mark(chr),
+        },
     }
 }
 
@@ -41,7 +51,8 @@ pub fn is_atom_string_chr(chr: u8) -> bool
     ensures { λ r. ⌜ r ≡ isStringChr chr ⌝ }
 {
     match chr {
-        b' '..=b'!' | b'#'..=b'[' | b']'..=b'~' => true,
+        b'"' | b'\\' => false,
+        b' '..=b'~' => true,
         _ => false,
     }
 }
@@ -82,17 +93,6 @@ fn is_escaped_chr(chr: u8) -> bool
     }
 }
 
-// The same as is_atom_string_chr, for a byte that is known to be no `"` and no `\`: then one range is enough.
-fn is_string_byte(byte: u8) -> bool
-    requires { ⌜ (byte ≡ 34 → ⊥) × (byte ≡ 92 → ⊥) ⌝ }
-    ensures { λ r. ⌜ r ≡ isStringChr byte ⌝ }
-{
-    if byte < 32 {
-        return false;
-    }
-    byte < 127
-}
-
 // The place behind the closing quote of a string whose inside begins at `from`, or 0 if no string is there. It is a loop of its own, and so short, since
 // a string may be long.
 fn string_end(atom: &[u8], from: usize) -> usize
@@ -111,7 +111,7 @@ fn string_end(atom: &[u8], from: usize) -> usize
                 return 0;
             }
             at += 1;
-        } else if !is_string_byte(chr) {
+        } else if !is_atom_string_chr(chr) {
             return 0;
         }
     }
@@ -143,7 +143,7 @@ pub fn check_atom(atom: &[u8]) -> bool
     let mut at = 0;
     while at < atom.len() {
         let chr = atom[at];
-        if is_atom_byte(chr) {
+        if is_atom_chr(chr) {
             at += 1;
         } else {
             if chr != b'"' {

@@ -1,8 +1,8 @@
 -- `put_case_part` is safe: the part is within the bytes.
 -- Assumes nothing.
-use borrow.Author.Needs.{needs}
 use mathlib.Core.Path.{sym}
 use lib.Seq.{length-take-le}
+use borrow.Author.Needs.{needs}
 use Rattle.characters.proofs.put_case_part.Statement.{statement}
 use Rattle.characters.proofs.put_case_part.Tie as tie
 
@@ -13,5 +13,4 @@ put-case-part-spec =
     (λ c. search needs)  -- returns
     (λ c. sym (length-take-le _ _ (c .before .before .if1 .left)))  -- slice-aggregate-put-case-line
     (λ c κs. search needs)  -- put-case-line-requires
-    (λ c. search needs)  -- same-length
     (λ c. search needs))  -- returns-2

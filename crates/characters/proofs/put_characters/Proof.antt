@@ -1,14 +1,13 @@
 -- `put_characters` is safe and ends: the place rises to one past the case.
 -- Assumes nothing.
-use borrow.Author.Needs.{needs}
 use Prim.Native.Nat.{_+_, _-_, _≤_}
 use lib.ListN.{length}
-use mathlib.Core.Path.{_≡_}
+use borrow.Author.Needs.{needs}
 use Rattle.characters.proofs.put_characters.Statement.{statement}
 use Rattle.characters.proofs.put_characters.Tie as tie
 
 abbrev Inv-loop : tie.InvT-loop
-Inv-loop out₀ from case at₀ place₀ out at place = (length out ≡ length out₀) × (place ≤ length case + 1)
+Inv-loop out₀ from case at₀ place₀ out at place = place ≤ length case + 1
 
 abbrev μ-loop : tie.MeasureT-loop
 μ-loop out₀ from case at₀ place₀ out at place = length case + 1 - place
@@ -27,5 +26,4 @@ put-characters-spec =
     (λ c. search needs)  -- loop-again
     (λ c κs. search needs)  -- character-at-requires-2
     (λ c κs. search needs)  -- put-character-requires-2
-    (λ c. search needs)  -- same-length
     (λ c. search needs))  -- returns

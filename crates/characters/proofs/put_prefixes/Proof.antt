@@ -1,14 +1,13 @@
 -- `put_prefixes` is safe and ends: the length rises to one past the case.
 -- Assumes nothing.
-use borrow.Author.Needs.{needs}
 use Prim.Native.Nat.{_+_, _-_, _≤_}
 use lib.ListN.{length}
-use mathlib.Core.Path.{_≡_}
+use borrow.Author.Needs.{needs}
 use Rattle.characters.proofs.put_prefixes.Statement.{statement}
 use Rattle.characters.proofs.put_prefixes.Tie as tie
 
 abbrev Inv-loop : tie.InvT-loop
-Inv-loop out₀ from case at₀ len₀ out at len = (length out ≡ length out₀) × (len ≤ length case + 1)
+Inv-loop out₀ from case at₀ len₀ out at len = len ≤ length case + 1
 
 abbrev μ-loop : tie.MeasureT-loop
 μ-loop out₀ from case at₀ len₀ out at len = length case + 1 - len
@@ -27,5 +26,4 @@ put-prefixes-spec =
     (λ c. search needs)  -- loop-again
     (λ c κs. search needs)  -- check-atom-prefix-requires-2
     (λ c κs. search needs)  -- put-answer-requires-2
-    (λ c. search needs)  -- same-length
     (λ c. search needs))  -- returns

@@ -2,17 +2,17 @@
 -- Assumes nothing.
 use mathlib.Core.Logic.{⊎-elim}
 use native.Mathlib.Omega.{arith}
-use borrow.Author.Needs.{needs}
 use Prim.Native.Nat.{_-_, _≤_}
 use lib.ListN.{length}
+use borrow.Author.Needs.{needs}
 use Rattle.characters.proofs.run_cases.Statement.{statement}
 use Rattle.characters.proofs.run_cases.Tie as tie
 
 abbrev Inv-loop : tie.InvT-loop
-Inv-loop text start₀ at₀ start at = (start ≤ at) × (at ≤ length text)
+Inv-loop out₀ from text at₀ start₀ end₀ out at start end = (start ≤ end) × (end ≤ length text)
 
 abbrev μ-loop : tie.MeasureT-loop
-μ-loop text start₀ at₀ start at = length text - at
+μ-loop out₀ from text at₀ start₀ end₀ out at start end = length text - end
 
 pub run-cases-spec : {M : Type 1} → statement M
 run-cases-spec =
@@ -27,7 +27,7 @@ run-cases-spec =
     (λ c. search needs)  -- part-run-case-end
     (λ c κs. search needs)  -- run-case-requires
     (λ c. search needs)  -- add-start
-    (λ c. search needs)  -- add-at
+    (λ c. search needs)  -- add-end
     (λ c. search needs)  -- loop-less
     (λ c. ⊎-elim (λ w. omega arith) (λ w. omega arith) (c .if1 .came))  -- loop-again
     (λ c. search needs))  -- returns

@@ -1,14 +1,11 @@
 -- `print_items` is safe and ends: the turns fall.
 -- Assumes nothing.
-use mathlib.Core.Logic.{⊎-elim}
 use borrow.Author.Needs.{needs}
-use lib.ListN.{length}
-use mathlib.Core.Path.{_≡_}
 use Rattle.items.proofs.print_items.Statement.{statement}
 use Rattle.items.proofs.print_items.Tie as tie
 
 abbrev Inv-loop : tie.InvT-loop
-Inv-loop text out₀ at₀ reader₀ turns₀ out at reader turns = 4096 ≡ length out
+Inv-loop text out₀ at₀ reader₀ turns₀ out at reader turns = Unit {0}
 
 abbrev μ-loop : tie.MeasureT-loop
 μ-loop text out₀ at₀ reader₀ turns₀ out at reader turns = turns
@@ -24,23 +21,16 @@ print-items-spec =
     (λ c. search needs)  -- add-turns
     (λ c. search needs)  -- loop-holds
     (λ c. search needs)  -- sub-turns
-    (λ c. search needs)  -- slice-aggregate-make-room
-    (λ c κs. search needs)  -- make-room-requires
     (λ c. search needs)  -- enum-told
-    (λ c. search needs)  -- slice-aggregate-put-finished
     (λ c κs. search needs)  -- finish-requires
     (λ c κs. search needs)  -- put-finished-requires
     (λ c κs. search needs)  -- next-item-requires
     (λ c. search needs)  -- enum-known-answer
-    (λ c. search needs)  -- slice-aggregate-put-item
     (λ c κs. search needs)  -- put-item-requires
-    (λ c. search needs)  -- slice-aggregate-put-byte
     (λ c κs. search needs)  -- put-byte-requires
     (λ c. search needs)  -- loop-less
     (λ c. search needs)  -- loop-again
     (λ c. search needs)  -- enum-known-answer-2
-    (λ c. search needs)  -- slice-aggregate-put-refused
     (λ c κs. search needs)  -- put-refused-requires
-    (λ c. ⊎-elim (λ w. search needs) (⊎-elim (λ w. search needs) (λ w. search needs)) (c .before .loop-test .came))  -- slice-aggregate-flush
     (λ c κs. search needs)  -- flush-requires
     (λ c. search needs))  -- returns

@@ -2,7 +2,7 @@
 -- Assumes nothing.
 use native.Mathlib.Omega.{arith}
 use borrow.Author.Needs.{needs}
-use Rattle.replay.proofs.Froms.{onward-after}
+use Rattle.script.proofs.Froms.{onward-after}
 use Rattle.replay.proofs.run_case.Statement.{statement}
 use Rattle.replay.proofs.run_case.Tie as tie
 
@@ -17,10 +17,7 @@ run-case-spec =
     (λ c κs. search needs)  -- run-requires-2
     (λ c. search needs)  -- add-run-3
     (λ c κs. search needs)  -- run-requires-3
-    (λ c. search needs)  -- same-length
-    (λ c. onward-after (c .before .before .before .before .before .before .before .before .args .from) _ (c .before .before .run .result) (omega arith) (c .before .before .run .ensures))  -- returns
-    (λ c. search needs)  -- same-length-2
-    (λ c. onward-after (c .before .before .before .before .before .before .before .before .args .from) _ (c .before .before .run2 .result) (omega arith) (c .before .before .run2 .ensures))  -- returns-2
-    (λ c. search needs)  -- same-length-3
-    (λ c. onward-after (c .before .before .before .before .before .before .before .before .args .from) _ (c .before .before .run3 .result) (omega arith) (c .before .before .run3 .ensures))  -- returns-3
+    (λ c. onward-after (c .before .before .before .before .before .args .from) _ (c .run .result) (omega arith) (c .run .ensures))  -- returns
+    (λ c. onward-after (c .before .before .before .before .before .args .from) _ (c .run2 .result) (omega arith) (c .run2 .ensures))  -- returns-2
+    (λ c. onward-after (c .before .before .before .before .before .args .from) _ (c .run3 .result) (omega arith) (c .run3 .ensures))  -- returns-3
     (λ c. search needs))  -- returns-4

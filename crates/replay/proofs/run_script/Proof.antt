@@ -3,8 +3,8 @@
 use mathlib.Core.Logic.{⊎-elim}
 use native.Mathlib.Omega.{arith}
 use borrow.Author.Needs.{needs}
-use Rattle.replay.specs.Script.{Onward}
-use Rattle.replay.specs.declared.script.Ran.{Ran}
+use Rattle.script.specs.Script.{Onward}
+use Rattle.script.specs.declared.Ran.{Ran}
 use lib.ListN.{length}
 use mathlib.Core.Path.{_≡_, subst}
 use Prim.Native.Nat.{ℕ, _-_, _<_}
@@ -12,7 +12,7 @@ use Rattle.replay.proofs.run_script.Statement.{statement}
 use Rattle.replay.proofs.run_script.Tie as tie
 
 abbrev Inv-loop : tie.InvT-loop
-Inv-loop script out₀ at₀ from₀ t7 out at from = 4096 ≡ length out
+Inv-loop script out₀ at₀ from₀ t7 out at from = Unit {0}
 
 abbrev μ-loop : tie.MeasureT-loop
 μ-loop script out₀ at₀ from₀ t7 out at from = length script - from
@@ -28,17 +28,12 @@ run-script-spec =
     μ-loop
     (λ c κs. search needs)  -- buffer-requires
     (λ c. search needs)  -- loop-holds
-    (λ c. search needs)  -- slice-aggregate-run-case
     (λ c κs. search needs)  -- run-case-requires
     (λ c. search needs)  -- enum-known-place
-    (λ c. let s = onward _ (c .before .place .given .1) (c .before .before .before .before .run-case .ensures) in omega arith)  -- loop-less
+    (λ c. let s = onward _ (c .before .place .given .1) (c .before .before .before .run-case .ensures) in omega arith)  -- loop-less
     (λ c. search needs)  -- loop-again
     (λ c. search needs)  -- enum-known-place-2
-    (λ c. search needs)  -- slice-aggregate-make-room
-    (λ c κs. search needs)  -- make-room-requires
     (λ c. search needs)  -- slice-aggregate-put-bytes
-    (λ c. search needs)  -- slice-aggregate-put-bytes-2
     (λ c κs. search needs)  -- put-bytes-requires
-    (λ c. ⊎-elim (λ w. search needs) (λ w. search needs) (c .before .loop-test .came))  -- slice-aggregate-flush
     (λ c κs. search needs)  -- flush-requires
     (λ c. search needs))  -- returns

@@ -2,7 +2,7 @@
 -- Assumes nothing.
 use mathlib.Core.Path.{sym, ap, _∙_}
 use borrow.Author.Needs.{needs}
-use Rattle.sise_c.specs.Told.{checked}
+use Rattle.sise_c.specs.Reports.{checked}
 use Rattle.sise_c.proofs.sise_check_atom.Statement.{statement}
 use Rattle.sise_c.proofs.sise_check_atom.Tie as tie
 

@@ -1,8 +1,8 @@
--- `sise_measure_tree` meets its contract: it tells what measure_text promises, and of the record the position alone.
+-- `sise_measure_tree` meets its contract: it reports what measure_text promises, and of the record the position alone.
 -- Assumes nothing.
 use mathlib.Core.Path.{refl}
 use borrow.Author.Needs.{needs}
-use Rattle.sise_c.proofs.Telling.{tells-measured}
+use Rattle.sise_c.proofs.Reporting.{reports-measured}
 use Rattle.sise_c.proofs.sise_measure_tree.Statement.{statement}
 use Rattle.sise_c.proofs.sise_measure_tree.Tie as tie
 
@@ -11,6 +11,6 @@ sise-measure-tree-spec =
     tie.close
     (tie.spec
     (λ c κs. search needs)  -- measure-text-requires
-    (λ c κs. search needs)  -- tell-put-requires
+    (λ c κs. search needs)  -- report-put-requires
     -- returns
-    (λ c b e. let w = c .before .before in tells-measured _ b _ _ _ refl (c .tell-put .ensures) (w .measure-text .ensures b e)))
+    (λ c b e. let w = c .before .before in reports-measured _ b _ _ _ refl (c .report-put .ensures) (w .measure-text .ensures b e)))

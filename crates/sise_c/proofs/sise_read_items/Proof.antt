@@ -15,20 +15,20 @@ use Rattle.sise_parser.specs.declared.reader.Finished.{Finished}
 use Rattle.sise_parser.specs.declared.reader.Finished.the-variants.{Done, Refused}
 use Rattle.sise_serializer.specs.Bytes.{pasted}
 use Rattle.sise_tree.specs.Answers.{answered, refused, refusedWith}
-use Rattle.sise_c.specs.Told.{Tells}
+use Rattle.sise_c.specs.Reports.{Reports}
 use Rattle.sise_c.specs.Items.{itemsOf, endingOf, allWords, ReadsItems, reads, itemsIn, readItemsBy, readItems}
 use Rattle.sise_c.proofs.sise_read_items.Statement.{statement}
 use Rattle.sise_c.proofs.sise_read_items.Tie as tie
 
 abbrev Leaves : ReadsItems → ℕ → List ℕ → List ℕ → Type 0
-Leaves d r values words = Tells (d .answer) r values × (words ≡ d .words)
+Leaves d r values words = Reports (d .answer) r values × (words ≡ d .words)
 
 module _ (text words : List ℕ) {f : Finished} (ends : finishedAs f ≡ endingOf text) where
   by : {g : Finished} → f ≡ g → readItems text words ≡ readItemsBy words (itemsOf text) (finishedAs g)
   unfolding readItems
   by e = ap (readItemsBy words (itemsOf text)) (sym ends ∙ ap finishedAs e)
 
-  wrong : {x : ParseError} {r : ℕ} {values : List ℕ} → f ≡ Refused x → Tells (refused (refusalOf x)) r values → Leaves (readItems text words) r values words
+  wrong : {x : ParseError} {r : ℕ} {values : List ℕ} → f ≡ Refused x → Reports (refused (refusalOf x)) r values → Leaves (readItems text words) r values words
   wrong {r = r} {values = values} e t = subst (λ (d : ReadsItems). Leaves d r values words) (sym (by e)) (t, refl)
 
   module _ (e : f ≡ Done) {n : ℕ} (c : n ≡ length (itemsOf text)) where
@@ -50,7 +50,7 @@ module _ (text words : List ℕ) {f : Finished} (ends : finishedAs f ≡ endingO
         (record { result = refl; values = ap (λ (m : ℕ). m ∷ 0 ∷ []) c }, w)
 
 returns : tie.Need-returns
-returns c = wrong _ _ (c .before .before .before .before .before .count-items .ensures .1) (c .before .before .before .ending .given .1) (c .tell-refused .ensures)
+returns c = wrong _ _ (c .before .before .before .before .before .count-items .ensures .1) (c .before .before .before .ending .given .1) (c .report-refused .ensures)
 
 returns-2 : tie.Need-returns-2
 returns-2 c =
@@ -70,7 +70,7 @@ sise-read-items-spec =
     (tie.spec
     (λ c κs. search needs)  -- count-items-requires
     (λ c. search needs)  -- enum-known-ending
-    (λ c κs. search needs)  -- tell-refused-requires
+    (λ c κs. search needs)  -- report-refused-requires
     returns
     (λ c. search needs)  -- enum-told
     returns-2

@@ -44,7 +44,7 @@ given : (text : List ℕ) (r : Reader) (k : ℕ) (i : ParsedItem) → nextItem t
 unfolding countFrom
 given text r k i d = rw (d, countFrom)
 
--- one call, and what it was told to answer
+-- one call, and what it has to answer
 module _ {text : List ℕ} {r : Reader} {count left : ℕ} (c : Counted text r count left) {n : Next} (e : nextAs n ≡ nextItem text r) where
   answered : {a : Answer} → n .answer ≡ a → nextItem text r .answer ≡ answerAs a
   answered d = ap (λ (x : reader.Next). x .answer) (sym e) ∙ ap answerAs d

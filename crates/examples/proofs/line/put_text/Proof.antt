@@ -14,5 +14,4 @@ put-text-spec =
     (λ c. sym (length-take-le _ _ (c .before .before .if1 .left)))  -- slice-aggregate-put-bytes
     (λ c κs. search needs)  -- put-bytes-requires
     (λ c κs. search needs)  -- put-byte-requires
-    (λ c. search needs)  -- same-length
     (λ c. search needs))  -- returns-2

@@ -2,13 +2,12 @@
 -- Assumes nothing.
 use borrow.Author.Needs.{needs}
 use lib.ListN.{length}
-use mathlib.Core.Path.{_≡_}
 use Prim.Native.Nat.{_≤_, _-_}
 use Rattle.examples.proofs.trees.put_words.Statement.{statement}
 use Rattle.examples.proofs.trees.put_words.Tie as tie
 
 abbrev Inv-loop : tie.InvT-loop
-Inv-loop out₀ from table at₀ i₀ out at i = (length out ≡ length out₀) × (i ≤ length table)
+Inv-loop out₀ from table at₀ i₀ out at i = i ≤ length table
 
 abbrev μ-loop : tie.MeasureT-loop
 μ-loop out₀ from table at₀ i₀ out at i = length table - i
@@ -26,5 +25,4 @@ put-words-spec =
     (λ c. search needs)  -- add-i
     (λ c. search needs)  -- loop-less
     (λ c. search needs)  -- loop-again
-    (λ c. search needs)  -- same-length
     (λ c. search needs))  -- returns

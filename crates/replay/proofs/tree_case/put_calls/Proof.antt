@@ -2,7 +2,7 @@
 -- Assumes nothing.
 use borrow.Author.Needs.{needs}
 use native.Mathlib.Omega.{arith}
-use Rattle.replay.proofs.Froms.{tree-from, numbers-from, onward-after}
+use Rattle.script.proofs.Froms.{tree-from, numbers-from, onward-after}
 use Rattle.replay.proofs.tree_case.put_calls.Statement.{statement}
 use Rattle.replay.proofs.tree_case.put_calls.Tie as tie
 
@@ -27,7 +27,6 @@ put-calls-spec =
     (λ c. search needs)  -- part-tree-start
     (λ c. search needs)  -- part-tree-end
     (λ c κs. search needs)  -- put-writings-requires
-    (λ c κs. let e = numbers-from _ _ _ (c .before .before .before .before .before .before .before .before .before .end .given .1) (c .before .before .before .before .before .before .before .before .before .before .before .before .before .read-stores .ensures) in e .1)  -- put-paths-requires
+    (λ c κs. let e = numbers-from _ _ _ (c .before .before .before .before .before .before .before .end .given .1) (c .before .before .before .before .before .before .before .before .before .before .before .read-stores .ensures) in e .1)  -- put-paths-requires
     (λ c. search needs)  -- same-length-3
-    (λ c. search needs)  -- same-length-4
-    (λ c. let t = tree-from _ _ (c .before .before .before .before .before .before .before .before .before .before .before .before .before .before .before .before .before .before .before .calls .given .1) (c .before .before .before .before .before .before .before .before .before .before .before .before .before .before .before .before .before .before .before .before .before .read-tree-line .ensures) in let e = numbers-from _ _ _ (c .before .before .before .before .before .before .before .before .before .before .before .before .end .given .1) (c .before .before .before .before .before .before .before .before .before .before .before .before .before .before .before .before .read-stores .ensures) in onward-after _ _ (c .before .before .put-paths .result) (omega arith) (c .before .before .put-paths .ensures)))  -- returns-4
+    (λ c. let t = tree-from _ _ (c .before .before .before .before .before .before .before .before .before .before .before .before .before .before .before .calls .given .1) (c .before .before .before .before .before .before .before .before .before .before .before .before .before .before .before .before .before .read-tree-line .ensures) in let e = numbers-from _ _ _ (c .before .before .before .before .before .before .before .before .end .given .1) (c .before .before .before .before .before .before .before .before .before .before .before .before .read-stores .ensures) in onward-after _ _ (c .put-paths .result) (omega arith) (c .put-paths .ensures)))  -- returns-4

@@ -6,12 +6,12 @@ use mathlib.Core.Path.{_≡_, sym}
 use Prim.Native.Nat.{_<_}
 use native.Mathlib.Omega.{arith}
 use lib.Seq.{length-take-le}
-use Rattle.replay.proofs.Froms.{numbers-from}
+use Rattle.script.proofs.Froms.{numbers-from}
 use Rattle.replay.proofs.tree_case.put_paths.Statement.{statement}
 use Rattle.replay.proofs.tree_case.put_paths.Tie as tie
 
 abbrev Inv-loop : tie.InvT-loop
-Inv-loop out₀ place script line-end paths text tree list₀ at₀ from₀ left₀ out list at from left = (length out ≡ length out₀) × (256 ≡ length list) × (line-end < from)
+Inv-loop out₀ place script line-end paths text tree list₀ at₀ from₀ left₀ out list at from left = (256 ≡ length list) × (line-end < from)
 
 abbrev μ-loop : tie.MeasureT-loop
 μ-loop out₀ place script line-end paths text tree list₀ at₀ from₀ left₀ out list at from left = left
@@ -30,14 +30,12 @@ put-paths-spec =
     (λ c κs. search needs)  -- read-numbers-requires
     (λ c. search needs)  -- enum-known-count
     (λ c. search needs)  -- enum-told
-    (λ c. search needs)  -- same-length
     (λ c. search needs)  -- returns
     (λ c. let s = numbers-from _ _ _ (c .before .before .count .given .1) (c .before .before .before .before .before .read-numbers .ensures) in omega arith)  -- array-share-prefix-list
     (λ c. let s = numbers-from _ _ _ (c .before .before .before .count .given .1) (c .before .before .before .before .before .before .read-numbers .ensures) in sym (length-take-le _ _ (omega arith)))  -- slice-aggregate-index-path
     (λ c κs. search needs)  -- index-path-requires
     (λ c κs. search needs)  -- put-path-requires
-    (λ c. let s = numbers-from _ _ _ (c .before .before .before .before .before .before .before .count .given .1) (c .before .before .before .before .before .before .before .before .before .before .read-numbers .ensures) in omega arith)  -- add-from-2
+    (λ c. let s = numbers-from _ _ _ (c .before .before .before .before .before .count .given .1) (c .before .before .before .before .before .before .before .before .read-numbers .ensures) in omega arith)  -- add-from-2
     (λ c. search needs)  -- loop-less
-    (λ c. let s = numbers-from _ _ _ (c .before .before .before .before .before .before .before .count .given .1) (c .before .before .before .before .before .before .before .before .before .before .read-numbers .ensures) in (search needs, search needs, omega arith))  -- loop-again
-    (λ c. search needs)  -- same-length-2
+    (λ c. let s = numbers-from _ _ _ (c .before .before .before .before .before .count .given .1) (c .before .before .before .before .before .before .before .before .read-numbers .ensures) in (search needs, omega arith))  -- loop-again
     (λ c. search needs))  -- returns-2

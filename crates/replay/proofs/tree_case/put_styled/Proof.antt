@@ -2,7 +2,7 @@
 -- Assumes nothing.
 use borrow.Author.Needs.{needs}
 use native.Mathlib.Omega.{arith}
-use Rattle.replay.proofs.Froms.{style-from, onward-after}
+use Rattle.script.proofs.Froms.{style-from, onward-after}
 use Rattle.replay.proofs.tree_case.put_styled.Statement.{statement}
 use Rattle.replay.proofs.tree_case.put_styled.Tie as tie
 
@@ -14,7 +14,6 @@ put-styled-spec =
     (λ c. search needs)  -- add-from
     (λ c. search needs)  -- shared-slice-read-if2
     (λ c. search needs)  -- same-length
-    (λ c. search needs)  -- same-length-2
     (λ c. search needs)  -- returns
     (λ c. search needs)  -- add-read-writer-case
     (λ c κs. search needs)  -- read-writer-case-requires
@@ -29,9 +28,7 @@ put-styled-spec =
     (λ c. let s = style-from _ _ (c .before .before .room .given .1) (c .before .before .before .before .read-writer-case .ensures) in omega arith)  -- part-indentation-end
     (λ c κs. let s = style-from _ _ (c .before .before .before .before .before .room .given .1) (c .before .before .before .before .before .before .before .read-writer-case .ensures) in (s .1, s .2))  -- put-calls-requires
     (λ c. search needs)  -- enum-told
+    (λ c. search needs)  -- same-length-2
+    (λ c. let s = style-from _ _ (c .before .before .before .before .before .before .before .before .room .given .1) (c .before .before .before .before .before .before .before .before .before .before .read-writer-case .ensures) in onward-after _ _ (c .before .before .put-calls .result) (omega arith) (c .before .before .put-calls .ensures))  -- returns-2
     (λ c. search needs)  -- same-length-3
-    (λ c. search needs)  -- same-length-4
-    (λ c. let s = style-from _ _ (c .before .before .before .before .before .before .before .before .before .before .room .given .1) (c .before .before .before .before .before .before .before .before .before .before .before .before .read-writer-case .ensures) in onward-after _ _ (c .before .before .before .before .put-calls .result) (omega arith) (c .before .before .before .before .put-calls .ensures))  -- returns-2
-    (λ c. search needs)  -- same-length-5
-    (λ c. search needs)  -- same-length-6
     (λ c. search needs))  -- returns-3

@@ -7,7 +7,7 @@ use Rattle.replay.proofs.tree_case.put_trees.Statement.{statement}
 use Rattle.replay.proofs.tree_case.put_trees.Tie as tie
 
 abbrev Inv-loop : tie.InvT-loop
-Inv-loop out₀ place line-break indentation buf₀ text tree writings serializer₀ at-line at₀ left₀ out buf serializer at left = (length out ≡ length out₀) × (length buf ≡ length buf₀)
+Inv-loop out₀ place line-break indentation buf₀ text tree writings serializer₀ at-line at₀ left₀ out buf serializer at left = length buf ≡ length buf₀
 
 abbrev μ-loop : tie.MeasureT-loop
 μ-loop out₀ place line-break indentation buf₀ text tree writings serializer₀ at-line at₀ left₀ out buf serializer at left = left
@@ -27,5 +27,4 @@ put-trees-spec =
     (λ c. search needs)  -- loop-less
     (λ c. search needs)  -- loop-again
     (λ c. search needs)  -- same-length
-    (λ c. search needs)  -- same-length-2
     (λ c. search needs))  -- returns

@@ -19,5 +19,4 @@ put-writings-spec =
     (λ c. search needs)  -- array-borrow-prefix-house
     (λ c. sym (length-take-le _ _ (omega arith)))  -- slice-aggregate-put-house
     (λ c κs. search needs)  -- put-house-requires
-    (λ c. search needs)  -- same-length
     (λ c. search needs))  -- returns

@@ -4,7 +4,7 @@ use borrow.Author.Needs.{needs}
 use mathlib.Core.Path.{sym}
 use native.Mathlib.Omega.{arith}
 use lib.Seq.{length-take-le}
-use Rattle.replay.proofs.Froms.{numbers-from, fewer-numbers}
+use Rattle.script.proofs.Froms.{numbers-from, fewer-numbers}
 use Rattle.replay.proofs.tree_case.read_stores.Statement.{statement}
 use Rattle.replay.proofs.tree_case.read_stores.Tie as tie
 

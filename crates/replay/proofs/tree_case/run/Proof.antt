@@ -4,7 +4,7 @@ use borrow.Author.Needs.{needs}
 use native.Mathlib.Omega.{arith}
 use mathlib.Core.Path.{sym}
 use lib.Seq.{length-take-le}
-use Rattle.replay.proofs.Froms.{text-from, onward-after}
+use Rattle.script.proofs.Froms.{text-from, onward-after}
 use Rattle.replay.proofs.tree_case.run.Statement.{statement}
 use Rattle.replay.proofs.tree_case.run.Tie as tie
 
@@ -23,6 +23,5 @@ run-spec =
     (λ c. let t = text-from _ _ _ (c .before .before .before .before .before .start .given .1) (c .before .before .before .before .before .before .before .read-text-case .ensures) in sym (length-take-le _ _ (omega arith)))  -- slice-aggregate-put-styled
     (λ c κs. let t = text-from _ _ _ (c .before .before .before .before .before .start .given .1) (c .before .before .before .before .before .before .before .read-text-case .ensures) in t .1)  -- put-styled-requires
     (λ c. search needs)  -- enum-told
-    (λ c. search needs)  -- same-length
-    (λ c. let t = text-from _ _ _ (c .before .before .before .before .before .before .before .before .before .start .given .1) (c .before .before .before .before .before .before .before .before .before .before .before .read-text-case .ensures) in onward-after _ _ (c .before .before .before .put-styled .result) (omega arith) (c .before .before .before .put-styled .ensures))  -- returns
+    (λ c. let t = text-from _ _ _ (c .before .before .before .before .before .before .before .start .given .1) (c .before .before .before .before .before .before .before .before .before .read-text-case .ensures) in onward-after _ _ (c .before .put-styled .result) (omega arith) (c .before .put-styled .ensures))  -- returns
     (λ c. search needs))  -- returns-2

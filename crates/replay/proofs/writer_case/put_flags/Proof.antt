@@ -1,14 +1,12 @@
 -- `put_flags` is safe and ends: the index rises to 200, the number of flags.
 -- Assumes nothing.
 use borrow.Author.Needs.{needs}
-use lib.ListN.{length}
-use mathlib.Core.Path.{_≡_}
 use Prim.Native.Nat.{_-_}
 use Rattle.replay.proofs.writer_case.put_flags.Statement.{statement}
 use Rattle.replay.proofs.writer_case.put_flags.Tie as tie
 
 abbrev Inv-loop : tie.InvT-loop
-Inv-loop out₀ from lists flags at₀ i₀ out at i = length out ≡ length out₀
+Inv-loop out₀ from lists flags at₀ i₀ out at i = Unit {0}
 
 abbrev μ-loop : tie.MeasureT-loop
 μ-loop out₀ from lists flags at₀ i₀ out at i = 200 - i
@@ -20,7 +18,6 @@ put-flags-spec =
     Inv-loop
     μ-loop
     (λ c. search needs)  -- loop-holds
-    (λ c. search needs)  -- same-length
     (λ c. search needs)  -- returns
     (λ c. search needs)  -- array-read-bit
     (λ c κs. search needs)  -- bit-requires
@@ -28,5 +25,4 @@ put-flags-spec =
     (λ c. search needs)  -- add-i
     (λ c. search needs)  -- loop-less
     (λ c. search needs)  -- loop-again
-    (λ c. search needs)  -- same-length-2
     (λ c. search needs))  -- returns-2

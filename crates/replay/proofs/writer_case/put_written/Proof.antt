@@ -13,5 +13,4 @@ put-written-spec =
     (λ c. search needs)  -- returns
     (λ c. sym (length-take-le _ _ (c .before .before .if1 .left)))  -- slice-aggregate-put-text
     (λ c κs. search needs)  -- put-text-requires
-    (λ c. search needs)  -- same-length
     (λ c. search needs))  -- returns-2

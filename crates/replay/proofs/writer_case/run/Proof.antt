@@ -4,7 +4,7 @@ use borrow.Author.Needs.{needs}
 use native.Mathlib.Omega.{arith}
 use mathlib.Core.Path.{sym}
 use lib.Seq.{length-take-le}
-use Rattle.replay.proofs.Froms.{style-from, onward-after}
+use Rattle.script.proofs.Froms.{style-from, onward-after}
 use Rattle.replay.proofs.writer_case.run.Statement.{statement}
 use Rattle.replay.proofs.writer_case.run.Tie as tie
 
@@ -27,6 +27,5 @@ run-spec =
     (λ c. let s = style-from _ _ (c .before .before .before .before .before .before .room .given .1) (c .before .before .before .before .before .before .before .before .read-writer-case .ensures) in sym (length-take-le _ _ (omega arith)))  -- slice-aggregate-put-case
     (λ c κs. let s = style-from _ _ (c .before .before .before .before .before .before .room .given .1) (c .before .before .before .before .before .before .before .before .read-writer-case .ensures) in omega arith)  -- put-case-requires
     (λ c. search needs)  -- enum-told
-    (λ c. search needs)  -- same-length
-    (λ c. let s = style-from _ _ (c .before .before .before .before .before .before .before .before .before .before .room .given .1) (c .before .before .before .before .before .before .before .before .before .before .before .before .read-writer-case .ensures) in onward-after _ _ (c .before .before .before .put-case .result) (omega arith) (c .before .before .before .put-case .ensures))  -- returns
+    (λ c. let s = style-from _ _ (c .before .before .before .before .before .before .before .before .room .given .1) (c .before .before .before .before .before .before .before .before .before .before .read-writer-case .ensures) in onward-after _ _ (c .before .put-case .result) (omega arith) (c .before .put-case .ensures))  -- returns
     (λ c. search needs))  -- returns-2

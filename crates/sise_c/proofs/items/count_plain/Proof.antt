@@ -2,7 +2,7 @@
 -- Assumes nothing.
 use Prim.Native.Nat.{ℕ, _+_, _-_, _≤_, _<_}
 use native.Mathlib.Omega.{arith}
-use mathlib.Core.Path.{_≡_, sym, _∙_}
+use mathlib.Core.Path.{_≡_, refl, sym, _∙_}
 use mathlib.Core.List.{List}
 use lib.ListN.{length, drop}
 use borrow.Author.Needs.{needs}
@@ -12,7 +12,8 @@ use Rattle.sise_parser.proofs.ByteSteps.{between-open, between-close}
 use Rattle.sise_parser.proofs.Calls.{sound-parts}
 use Rattle.sise_c.specs.Passes.{CanCount, CountsOn}
 use Rattle.sise_c.specs.declared.items.Place.{Place}
-use Rattle.sise_c.proofs.ItemLaws.{counts-more, plain-atom, plain-start, plain-end}
+use Rattle.sise_tree.proofs.PlainItems.{plain-atom, plain-start, plain-end}
+use Rattle.sise_c.proofs.ItemLaws.{counts-more}
 use Rattle.sise_c.proofs.items.count_plain.Statement.{statement}
 use Rattle.sise_c.proofs.items.count_plain.Tie as tie
 
@@ -33,7 +34,7 @@ module _ {text : List ℕ} {b : Place} {p d n : ℕ} (v : Run text b p d n) {s :
         some = λ z. omega arith;
         deep = omega (arith, v .deep);
         early = omega (arith, v .early);
-        on = record { after = omega (arith, v .on .after); on = λ h a. let w = v .on .on h a in counts-more text w (plain-start text (w .reached) (v .some) t) };
+        on = record { after = omega (arith, v .on .after); on = λ h a. let w = v .on .on h a in counts-more text w (plain-start text h _ _ (w .reached .sound) (v .some) t refl) };
       }
 
   ends : between (drop p text) p ≡ found closing s (s + 1) → (d ≡ 1 → ⊥) → Run text b (s + 1) (d - 1) (n + 1)
@@ -43,7 +44,7 @@ module _ {text : List ℕ} {b : Place} {p d n : ℕ} (v : Run text b p d n) {s :
         some = λ z. some (omega arith);
         deep = omega (arith, v .deep);
         early = omega (arith, v .early);
-        on = record { after = omega (arith, v .on .after); on = λ h a. let w = v .on .on h a in counts-more text w (plain-end text (w .reached) some t more) };
+        on = record { after = omega (arith, v .on .after); on = λ h a. let w = v .on .on h a in counts-more text w (plain-end text h _ _ (w .reached .sound) some t more refl) };
       }
 
   takes : {q : ℕ} → s < q → between (drop p text) p ≡ found (atom (q - s)) s q → Run text b q d (n + 1)
@@ -52,7 +53,7 @@ module _ {text : List ℕ} {b : Place} {p d n : ℕ} (v : Run text b p d n) {s :
         some = v .some;
         deep = omega (arith, v .deep);
         early = omega (arith, v .early);
-        on = record { after = omega (arith, v .on .after); on = λ h a. let w = v .on .on h a in counts-more text w (plain-atom text (w .reached) (v .some) t) };
+        on = record { after = omega (arith, v .on .after); on = λ h a. let w = v .on .on h a in counts-more text w (plain-atom text h _ _ (w .reached .sound) (v .some) t) };
       }
 
 begins : {text : List ℕ} (b : Place) → CanCount text b → (b .lists ≡ 0 → ⊥) → Run text b (b .position) (b .lists) (b .items)

@@ -2,7 +2,7 @@
 -- Assumes nothing.
 use Prim.Native.Nat.{ℕ, _+_, _-_, _*_, _≤_, _<_}
 use native.Mathlib.Omega.{arith}
-use mathlib.Core.Path.{_≡_, sym, _∙_}
+use mathlib.Core.Path.{_≡_, refl, sym, _∙_}
 use mathlib.Core.List.{List, [], _∷_}
 use lib.ListN.{length, drop}
 use borrow.Author.Needs.{needs}
@@ -13,7 +13,8 @@ use Rattle.sise_parser.proofs.Calls.{sound-parts}
 use Rattle.sise_serializer.specs.Bytes.{pasted}
 use Rattle.sise_c.specs.Passes.{CanFill, FillsOn}
 use Rattle.sise_c.specs.declared.items.Place.{Place}
-use Rattle.sise_c.proofs.ItemLaws.{fills-room, fills-more, plain-atom, plain-start, plain-end}
+use Rattle.sise_tree.proofs.PlainItems.{plain-atom, plain-start, plain-end}
+use Rattle.sise_c.proofs.ItemLaws.{fills-room, fills-more}
 use Rattle.sise_c.proofs.items.fill_plain.Statement.{statement}
 use Rattle.sise_c.proofs.items.fill_plain.Tie as tie
 
@@ -33,7 +34,7 @@ same v (w₀, h, a) = v .on .on w₀ h a .same ∙ sym (a .same)
 module _ {text was : List ℕ} {b : Place} {words : List ℕ} {p d n : ℕ} (v : Run text was b words p d n) {s : ℕ} (l : p ≤ s) where
   module _ (t : between (drop p text) p ≡ found opening s (s + 1)) where
     start-fits : CanFill text was b → 4 * (n + 1) ≤ length words
-    start-fits (w₀, h, a) = let f = v .on .on w₀ h a in fills-room text w₀ f (plain-start text (f .reached) (v .some) t)
+    start-fits (w₀, h, a) = let f = v .on .on w₀ h a in fills-room text w₀ f (plain-start text h _ _ (f .reached .sound) (v .some) t refl)
 
     starts : {now : List ℕ} → now ≡ pasted words (4 * n) (1 ∷ s ∷ 0 ∷ 0 ∷ []) → length now ≡ length words → Run text was b now (s + 1) (d + 1) (n + 1)
     starts z k =
@@ -41,12 +42,12 @@ module _ {text was : List ℕ} {b : Place} {words : List ℕ} {p d n : ℕ} (v :
           some = λ o. omega arith;
           deep = omega (arith, v .deep);
           early = omega (arith, v .early);
-          on = record { after = omega (arith, v .on .after); on = λ w₀ h a. let f = v .on .on w₀ h a in fills-more text w₀ f (plain-start text (f .reached) (v .some) t) z k };
+          on = record { after = omega (arith, v .on .after); on = λ w₀ h a. let f = v .on .on w₀ h a in fills-more text w₀ f (plain-start text h _ _ (f .reached .sound) (v .some) t refl) z k };
         }
 
   module _ (t : between (drop p text) p ≡ found closing s (s + 1)) (more : d ≡ 1 → ⊥) where
     end-fits : CanFill text was b → 4 * (n + 1) ≤ length words
-    end-fits (w₀, h, a) = let f = v .on .on w₀ h a in fills-room text w₀ f (plain-end text (f .reached) (v .some) t more)
+    end-fits (w₀, h, a) = let f = v .on .on w₀ h a in fills-room text w₀ f (plain-end text h _ _ (f .reached .sound) (v .some) t more refl)
 
     ends : {now : List ℕ} → now ≡ pasted words (4 * n) (2 ∷ s ∷ 0 ∷ 0 ∷ []) → length now ≡ length words → Run text was b now (s + 1) (d - 1) (n + 1)
     ends z k =
@@ -55,12 +56,12 @@ module _ {text was : List ℕ} {b : Place} {words : List ℕ} {p d n : ℕ} (v :
           some = λ o. some (omega arith);
           deep = omega (arith, v .deep);
           early = omega (arith, v .early);
-          on = record { after = omega (arith, v .on .after); on = λ w₀ h a. let f = v .on .on w₀ h a in fills-more text w₀ f (plain-end text (f .reached) some t more) z k };
+          on = record { after = omega (arith, v .on .after); on = λ w₀ h a. let f = v .on .on w₀ h a in fills-more text w₀ f (plain-end text h _ _ (f .reached .sound) some t more refl) z k };
         }
 
   module _ {q : ℕ} (m : s < q) (t : between (drop p text) p ≡ found (atom (q - s)) s q) where
     atom-fits : CanFill text was b → 4 * (n + 1) ≤ length words
-    atom-fits (w₀, h, a) = let f = v .on .on w₀ h a in fills-room text w₀ f (plain-atom text (f .reached) (v .some) t)
+    atom-fits (w₀, h, a) = let f = v .on .on w₀ h a in fills-room text w₀ f (plain-atom text h _ _ (f .reached .sound) (v .some) t)
 
     takes : {now : List ℕ} → now ≡ pasted words (4 * n) (0 ∷ s ∷ (q - s) ∷ 0 ∷ []) → length now ≡ length words → Run text was b now q d (n + 1)
     takes z k =
@@ -68,7 +69,7 @@ module _ {text was : List ℕ} {b : Place} {words : List ℕ} {p d n : ℕ} (v :
           some = v .some;
           deep = omega (arith, v .deep);
           early = omega (arith, v .early);
-          on = record { after = omega (arith, v .on .after); on = λ w₀ h a. let f = v .on .on w₀ h a in fills-more text w₀ f (plain-atom text (f .reached) (v .some) t) z k };
+          on = record { after = omega (arith, v .on .after); on = λ w₀ h a. let f = v .on .on w₀ h a in fills-more text w₀ f (plain-atom text h _ _ (f .reached .sound) (v .some) t) z k };
         }
 
 begins : {text was : List ℕ} (b : Place) → CanFill text was b → (b .lists ≡ 0 → ⊥) → Run text was b was (b .position) (b .lists) (b .items)

@@ -9,9 +9,9 @@ use Rattle.sise_parser.specs.declared.lexer.Place.{Place}
 use Rattle.sise_parser.proofs.lexer.illegal_chr.Statement.{statement}
 use Rattle.sise_parser.proofs.lexer.illegal_chr.Tie as tie
 
--- the number of a place that was told
-told : {p q : Place} (pos chr : ℕ) → p ≡ q → refusal (placeNumber q) pos chr ≡ refusal (placeNumber p) pos chr
-told pos chr e = ap (λ (x : Place). refusal (placeNumber x) pos chr) (sym e)
+-- the number of a place that is known
+known : {p q : Place} (pos chr : ℕ) → p ≡ q → refusal (placeNumber q) pos chr ≡ refusal (placeNumber p) pos chr
+known pos chr e = ap (λ (x : Place). refusal (placeNumber x) pos chr) (sym e)
 
 pub illegal-chr-spec : {M : Type 1} → statement M
 illegal-chr-spec =
@@ -20,6 +20,6 @@ illegal-chr-spec =
     (λ c. search needs)
     (λ c. search needs)
     (λ c. search needs)
-    (λ c. told _ _ (c .enum-told .given .1))
-    (λ c. told _ _ (c .enum-told2 .given .1))
-    (λ c. told _ _ (c .enum-told3 .given .1)))
+    (λ c. known _ _ (c .enum-told .given .1))
+    (λ c. known _ _ (c .enum-told2 .given .1))
+    (λ c. known _ _ (c .enum-told3 .given .1)))

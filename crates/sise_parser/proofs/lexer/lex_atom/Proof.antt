@@ -26,9 +26,9 @@ Inv-loop text start at₀ at = InAtom text start at
 abbrev μ-loop : tie.MeasureT-loop
 μ-loop text start at₀ at = length text - at
 
--- a string's end, where it was told which it is
-told : {text : List ℕ} {from : ℕ} {r e : StringEnd} → Ends text from r → r ≡ e → Ends text from e
-told {text} {from} x d = subst (Ends text from) d x
+-- a string's end, where it is known which it is
+known : {text : List ℕ} {from : ℕ} {r e : StringEnd} → Ends text from r → r ≡ e → Ends text from e
+known {text} {from} x d = subst (Ends text from) d x
 
 pub lex-atom-spec : {M : Type 1} → statement M
 lex-atom-spec =
@@ -54,10 +54,10 @@ lex-atom-spec =
     (λ c κs. search needs)  -- lex-string-requires
     (λ c. search needs)  -- enum-known-end
     -- loop-less-2
-    (λ c. let e = told (c .before .before .before .lex-string .ensures) (c .before .end .given .1) in omega (arith, e .after))
+    (λ c. let e = known (c .before .before .before .lex-string .ensures) (c .before .end .given .1) in omega (arith, e .after))
     -- loop-again-2
     (λ c.
-    let e = told (c .before .before .before .lex-string .ensures) (c .before .end .given .1) in
+    let e = known (c .before .before .before .lex-string .ensures) (c .before .end .given .1) in
     record {
       after = omega (arith, e .after);
       within = omega (arith, e .after);
@@ -66,7 +66,7 @@ lex-atom-spec =
     (λ c. search needs)  -- enum-known-wrong
     -- returns-2
     (λ c.
-    let e = told (c .before .before .before .lex-string .ensures) (c .before .wrong .given .1) in
+    let e = known (c .before .before .before .lex-string .ensures) (c .before .wrong .given .1) in
     sym (c .before .before .before .before .before .before .before .before .before .loop .inv .same ∙ plain-string _ _ (c .before .before .before .before .before .before .before .before .if1 .left) _ (c .before .before .before .before .if3 .taken) ∙ e .same _))
     (λ c. search needs)  -- sub-t17
     -- returns-3

@@ -10,8 +10,8 @@ use Rattle.sise_parser.specs.declared.lexer.Token.{Token}
 use Rattle.sise_parser.proofs.reader.first_item.Statement.{statement}
 use Rattle.sise_parser.proofs.reader.first_item.Tie as tie
 
-told : {t u : Token} (n s p : ℕ) → t ≡ u → inBeginning n (found (tokenAs u) s p) ≡ inBeginning n (found (tokenAs t) s p)
-told n s p e = ap (λ (v : Token). inBeginning n (found (tokenAs v) s p)) (sym e)
+known : {t u : Token} (n s p : ℕ) → t ≡ u → inBeginning n (found (tokenAs u) s p) ≡ inBeginning n (found (tokenAs t) s p)
+known n s p e = ap (λ (v : Token). inBeginning n (found (tokenAs v) s p)) (sym e)
 
 pub first-item-spec : {M : Type 1} → statement M
 unfolding inBeginning
@@ -26,7 +26,7 @@ first-item-spec =
     (λ c κs. search needs)
     (λ c. search needs)
     (λ c κs. search needs)
-    (λ c. c .refused .ensures ∙ told _ _ _ (c .before .enum-told .given .1))
-    (λ c. c .item .ensures ∙ told _ _ _ (c .before .enum-told2 .given .1))
-    (λ c. c .refused2 .ensures ∙ told _ _ _ (c .before .enum-told3 .given .1))
-    (λ c. c .item2 .ensures ∙ told _ _ _ (c .before .before .token .given .1)))
+    (λ c. c .refused .ensures ∙ known _ _ _ (c .before .enum-told .given .1))
+    (λ c. c .item .ensures ∙ known _ _ _ (c .before .enum-told2 .given .1))
+    (λ c. c .refused2 .ensures ∙ known _ _ _ (c .before .enum-told3 .given .1))
+    (λ c. c .item2 .ensures ∙ known _ _ _ (c .before .before .token .given .1)))

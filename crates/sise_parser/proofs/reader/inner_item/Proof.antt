@@ -13,8 +13,8 @@ use Rattle.sise_parser.specs.declared.reader.ParsedItem.the-variants.{Li
 use Rattle.sise_parser.proofs.reader.inner_item.Statement.{statement}
 use Rattle.sise_parser.proofs.reader.inner_item.Tie as tie
 
-told : {t u : Token} (n s p : ℕ) → t ≡ u → inParsing n (found (tokenAs u) s p) ≡ inParsing n (found (tokenAs t) s p)
-told n s p e = ap (λ (v : Token). inParsing n (found (tokenAs v) s p)) (sym e)
+known : {t u : Token} (n s p : ℕ) → t ≡ u → inParsing n (found (tokenAs u) s p) ≡ inParsing n (found (tokenAs t) s p)
+known n s p e = ap (λ (v : Token). inParsing n (found (tokenAs v) s p)) (sym e)
 
 last-closed : (n s p : ℕ) → n ≡ 1 → next (reader p Finishing 0) (item (ListEnd s)) ≡ inParsing n (found closing s p)
 unfolding inParsing
@@ -40,8 +40,8 @@ inner-item-spec =
     (λ c κs. search needs)
     (λ c. search needs)
     (λ c κs. search needs)
-    (λ c. c .refused .ensures ∙ told _ _ _ (c .before .enum-told .given .1))
-    (λ c. c .item .ensures ∙ told _ _ _ (c .before .enum-told2 .given .1))
-    (λ c. c .item2 .ensures ∙ last-closed _ _ _ (c .before .if1 .taken) ∙ told _ _ _ (c .before .before .enum-told3 .given .1))
-    (λ c. c .item3 .ensures ∙ one-closed _ _ _ (c .before .if1 .left) ∙ told _ _ _ (c .before .before .enum-told3 .given .1))
-    (λ c. c .item4 .ensures ∙ told _ _ _ (c .before .before .token .given .1)))
+    (λ c. c .refused .ensures ∙ known _ _ _ (c .before .enum-told .given .1))
+    (λ c. c .item .ensures ∙ known _ _ _ (c .before .enum-told2 .given .1))
+    (λ c. c .item2 .ensures ∙ last-closed _ _ _ (c .before .if1 .taken) ∙ known _ _ _ (c .before .before .enum-told3 .given .1))
+    (λ c. c .item3 .ensures ∙ one-closed _ _ _ (c .before .if1 .left) ∙ known _ _ _ (c .before .before .enum-told3 .given .1))
+    (λ c. c .item4 .ensures ∙ known _ _ _ (c .before .before .token .given .1)))

@@ -8,8 +8,8 @@ use Rattle.sise_parser.specs.declared.reader.Phase.{Phase}
 use Rattle.sise_parser.proofs.reader.lists_fit.Statement.{statement}
 use Rattle.sise_parser.proofs.reader.lists_fit.Tie as tie
 
-told : {f g : Phase} (n : ℕ) → f ≡ g → listsFit g n ≡ listsFit f n
-told n e = ap (λ (h : Phase). listsFit h n) (sym e)
+known : {f g : Phase} (n : ℕ) → f ≡ g → listsFit g n ≡ listsFit f n
+known n e = ap (λ (h : Phase). listsFit h n) (sym e)
 
 pub lists-fit-spec : {M : Type 1} → statement M
 lists-fit-spec =
@@ -18,6 +18,6 @@ lists-fit-spec =
     (λ c. search needs)
     (λ c. search needs)
     (λ c. search needs)
-    (λ c. told _ (c .enum-told .given .1))
-    (λ c. told _ (c .enum-told2 .given .1))
-    (λ c. told _ (c .enum-told3 .given .1)))
+    (λ c. known _ (c .enum-told .given .1))
+    (λ c. known _ (c .enum-told2 .given .1))
+    (λ c. known _ (c .enum-told3 .given .1)))

@@ -124,9 +124,9 @@ returns c =
     let v = c .before .before .before in
     let w = v .before .before in
     let (g, h) = ran (w .before .before .before .loop .inv .1) (w .before .before .count-plain .ensures .0) in
-    let told = c .before .enum-told .given .1 in
-    refused-ends _ _ h (called (w .item-ahead .result) (w .item-ahead .ensures) (v .renewed .ensures) told)
-    (c .settled .ensures ∙ ap (λ (a : Answer). settledAs (answerAs a) (w .before .before .count-plain .result .nodes)) told)
+    let gave = c .before .enum-told .given .1 in
+    refused-ends _ _ h (called (w .item-ahead .result) (w .item-ahead .ensures) (v .renewed .ensures) gave)
+    (c .settled .ensures ∙ ap (λ (a : Answer). settledAs (answerAs a) (w .before .before .count-plain .result .nodes)) gave)
 
 returns-2 : tie.Need-returns-2 Inv-loop μ-loop
 returns-2 c =

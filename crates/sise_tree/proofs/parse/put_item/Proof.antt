@@ -2,7 +2,7 @@
 -- Assumes nothing.
 use native.Mathlib.Omega.{arith}
 use borrow.Author.Needs.{needs}
-use Rattle.sise_tree.proofs.FillingTurns.{atom-fits, atom-told, atom-room, start-room, start-fits, start-told, end-closable, end-turns}
+use Rattle.sise_tree.proofs.FillingTurns.{atom-fits, atom-shows, atom-room, start-room, start-fits, start-shows, end-closable, end-turns}
 use Rattle.sise_tree.proofs.parse.put_item.Statement.{statement}
 use Rattle.sise_tree.proofs.parse.put_item.Tie as tie
 
@@ -18,12 +18,12 @@ close-list-requires c κs = let (w₀, f, h, u) = c .before .before .before .bef
 returns : tie.Need-returns
 returns c w₀ f h u =
     let t = c .before .before .before .before .before .item .given .1 in
-    atom-told h t u (c .before .before .put-atom .ensures w₀ f h (atom-fits h t u))
+    atom-shows h t u (c .before .before .put-atom .ensures w₀ f h (atom-fits h t u))
 
 returns-2 : tie.Need-returns-2
 returns-2 c w₀ f h u =
     let t = c .before .before .before .before .enum-told .given .1 in
-    start-told h t u (c .before .before .put-start .ensures _ _ w₀ f h (start-fits h t u))
+    start-shows h t u (c .before .before .put-start .ensures _ _ w₀ f h (start-fits h t u))
 
 returns-3 : tie.Need-returns-3
 returns-3 c w₀ f h u = end-turns (c .before .before .before .before .enum-told2 .given .1) f h u (c .before .before .close-list .ensures)

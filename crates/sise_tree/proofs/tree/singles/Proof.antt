@@ -34,9 +34,9 @@ one-more {words} {left} {at} {end} {run} fit k l e r one =
       within = omega arith;
     }
 
-told : {words : List ℕ} {left at end run : ℕ} → Counted words left at end run
+result-of : {words : List ℕ} {left at end run : ℕ} → Counted words left at end run
     → (fillsIn words (left - run) (at + run) end ≡ fillsIn words left at end) × ((run ≤ left) × (at + run ≤ end))
-told k = (k .same, (k .few, k .within))
+result-of k = (k .same, (k .few, k .within))
 
 abbrev Inv-loop : tie.InvT-loop
 Inv-loop table left at end run₀ run = Counted table left at end run
@@ -56,9 +56,9 @@ singles-spec =
     (λ c κs.
     let start = c .before .before .before .before in
     omega (arith, start .pre .0, ltb-true (start .args .at + c .before .before .loop .run) (start .args .end) (c .if1 .taken)))  -- word-requires
-    (λ c. told (c .before .before .before .before .loop .inv))  -- returns
+    (λ c. result-of (c .before .before .before .before .loop .inv))  -- returns
     (λ c. omega arith)  -- add-run
     (λ c. omega arith)  -- loop-less
     (λ c. one-more (c .before .before .before .before .before .before .pre .0) (c .before .before .before .before .loop .inv) (c .before .before .before .loop-test .taken) (ltb-true _ _ (c .before .before .if1 .taken)) (c .before .word .ensures .0) (c .if2 .left))  -- loop-again
-    (λ c. told (c .before .before .loop .inv))  -- returns-2
-    (λ c. told (c .before .loop .inv)))  -- returns-3
+    (λ c. result-of (c .before .before .loop .inv))  -- returns-2
+    (λ c. result-of (c .before .loop .inv)))  -- returns-3

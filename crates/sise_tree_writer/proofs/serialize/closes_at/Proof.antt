@@ -1,4 +1,4 @@
--- With no open list none ends; else the end that stands last tells.
+-- With no open list none ends; else the end that stands last decides.
 -- Assumes nothing.
 use Prim.Native.Nat.{_<_}
 use native.Mathlib.Omega.{arith}

@@ -1,4 +1,4 @@
--- What was measured is what a buffer of so many bytes is told; if the calls do not fit the depth tells 21 from 22.
+-- What was measured is what holds of a buffer of so many bytes; if the calls do not fit the depth decides between 21 and 22.
 -- Assumes nothing.
 use mathlib.Core.Path.{sym, ap, _∙_}
 use borrow.Author.Needs.{needs}
@@ -39,8 +39,8 @@ refused-requires c κs = search needs
 
 returns-2 : tie.Need-returns-2
 returns-2 c b long =
-    let told = c .before .before .before in
-    let walk = told .before .before in
+    let left = c .before .before .before in
+    let walk = left .before .before in
     let start = c .before .before .before .before .before .before .before .before .before .before .before .before .before in
     node-in _ _ _ _ _ _ (start .pre .0 .0) (start .pre .1) λ n d.
     measured-deep b long (rw (walk .before .before .progress .ensures) at (walk .measure-nodes .ensures n d)) (sym (c .before .before .too-deep .ensures n d) ∙ c .before .if1 .taken) (c .refused .ensures)
@@ -50,11 +50,11 @@ refused-requires-2 c κs = search needs
 
 returns-3 : tie.Need-returns-3
 returns-3 c b long =
-    let told = c .before .before .before in
-    let walk = told .before .before in
+    let left = c .before .before .before in
+    let walk = left .before .before in
     let start = c .before .before .before .before .before .before .before .before .before .before .before .before .before in
     node-in _ _ _ _ _ _ (start .pre .0 .0) (start .pre .1) λ n d.
-    measured-full b long (rw (walk .before .before .progress .ensures) at (walk .measure-nodes .ensures n d)) (told .enum-told .given .1) (sym (c .before .before .too-deep .ensures n d) ∙ c .before .if1 .left) (c .refused2 .ensures)
+    measured-full b long (rw (walk .before .before .progress .ensures) at (walk .measure-nodes .ensures n d)) (left .enum-told .given .1) (sym (c .before .before .too-deep .ensures n d) ∙ c .before .if1 .left) (c .refused2 .ensures)
 
 pub measure-checked-spec : {M : Type 1} → statement M
 measure-checked-spec =

@@ -19,11 +19,11 @@ enum-told c = search needs
 
 returns : tie.Need-returns
 returns c =
-    let told = c .before .measure-tree .ensures _ refl in
+    let measured = c .before .measure-tree .ensures _ refl in
     record {
-      serializer = told .serializer;
-      answer = told .answer;
-      buffer = sym (tree-kept _ _ _ _ _ _ (λ o e. not-at (c .before .measure-tree .result .answer) (c .match .keys2) o (told .answer ∙ e)));
+      serializer = measured .serializer;
+      answer = measured .answer;
+      buffer = sym (tree-kept _ _ _ _ _ _ (λ o e. not-at (c .before .measure-tree .result .answer) (c .match .keys2) o (measured .answer ∙ e)));
     }
 
 progress-requires : tie.Need-progress-requires
@@ -35,10 +35,10 @@ write-nodes-requires c κs =
     let start = c .before .before .before .before .before .before .before .before .before .before .before .before in
     let a = start .args in
     let called = c .before .before .before .before .before .before in
-    let told = called .measure-tree .ensures _ refl in
+    let measured = called .measure-tree .ensures _ refl in
     let (n, d, held, fit, wrote) =
     tree-accepted (style (a .line-break .now) (a .indentation .now)) (a .buf .now) (a .serializer) (a .text .now) (textCalls (a .text .now) (a .break-line-at) (a .finish)) (a .table .now)
-    (sym (told .answer) ∙ ap putAs (c .before .before .before .before .enum-told .given .1)) in (
+    (sym (measured .answer) ∙ ap putAs (c .before .before .before .before .enum-told .given .1)) in (
       record { holds = ap isSome d; atoms = λ m e. rw (Option·some-injective _ _ (sym e ∙ d)) held },
       λ m e. rw (c .before .before .progress .ensures, Option·some-injective _ _ (sym e ∙ d)) fit,
     )
@@ -51,13 +51,13 @@ returns-2 c =
     let start = c .before .before .before .before .before .before .before .before .before .before .before .before .before .before .before in
     let a = start .args in
     let called = c .before .before .before .before .before .before .before .before .before in
-    let told = called .measure-tree .ensures _ refl in
+    let measured = called .measure-tree .ensures _ refl in
     let (n, d, held, fit, wrote) =
     tree-accepted (style (a .line-break .now) (a .indentation .now)) (a .buf .now) (a .serializer) (a .text .now) (textCalls (a .text .now) (a .break-line-at) (a .finish)) (a .table .now)
-    (sym (told .answer) ∙ ap putAs (c .before .before .before .before .before .before .before .enum-told .given .1)) in
+    (sym (measured .answer) ∙ ap putAs (c .before .before .before .before .before .before .before .enum-told .given .1)) in
     record {
-      serializer = told .serializer;
-      answer = told .answer;
+      serializer = measured .serializer;
+      answer = measured .answer;
       buffer = (rw (c .before .before .before .before .before .progress .ensures) at (c .before .before .write-nodes .ensures n d)) ∙ sym wrote;
     }
 

@@ -81,11 +81,11 @@ check-atom-spec =
     (λ c. empty _ (c .if1 .taken))  -- returns
     (λ c. begun _ (c .if1 .left))  -- loop-holds
     (λ c. search needs)  -- shared-slice-read-chr
-    (λ c κs. search needs)  -- is-atom-byte-requires
+    (λ c κs. search needs)  -- is-atom-chr-requires
     (λ c. search needs)  -- add-at
     (λ c. search needs)  -- loop-less
-    (λ c. on (c .before .before .before .before .loop .inv) (omega arith) (sym (c .before .is-atom-byte .ensures) ∙ c .if2 .taken))  -- loop-again
-    (λ c. stop (c .before .before .before .before .before .loop .inv) (omega arith) (sym (c .before .before .is-atom-byte .ensures) ∙ c .before .if2 .left) (c .if3 .taken))  -- returns-2
+    (λ c. on (c .before .before .before .before .loop .inv) (omega arith) (sym (c .before .is-atom-chr .ensures) ∙ c .if2 .taken))  -- loop-again
+    (λ c. stop (c .before .before .before .before .before .loop .inv) (omega arith) (sym (c .before .before .is-atom-chr .ensures) ∙ c .before .if2 .left) (c .if3 .taken))  -- returns-2
     (λ c. search needs)  -- add-string-end
     (λ c κs. search needs)  -- string-end-requires
     (λ c. open-end (c .before .before .before .before .before .before .before .loop .inv) (omega arith) (c .before .before .if3 .left) (c .before .string-end .ensures .0) (c .if4 .taken))  -- returns-3

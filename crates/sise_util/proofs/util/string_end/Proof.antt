@@ -95,8 +95,8 @@ string-end-spec =
     (λ c. search needs)  -- add-at-2
     (λ c. search needs)  -- loop-less
     (λ c. let i = c .before .before .before .before .before .before .before .before .loop .inv in (escape-on (i .0) (omega arith) (c .before .before .before .before .before .if1 .left) (c .before .before .before .before .if2 .taken) (c .before .before .before .if3 .left) (sym (c .before .is-escaped-chr .ensures) ∙ not-false _ (c .if4 .left)), omega (arith, i .1)))  -- loop-again
-    (λ c κs. (c .before .if1 .left, c .if2 .left))  -- is-string-byte-requires
-    (λ c. (stop (c .before .before .before .before .before .before .loop .inv .0) (omega arith) (c .before .before .before .if1 .left) (c .before .before .if2 .left) (sym (c .before .is-string-byte .ensures) ∙ not-true _ (c .if5 .taken)), λ z. absurd (z refl)))  -- returns-3
+    (λ c κs. search needs)  -- is-atom-string-chr-requires
+    (λ c. (stop (c .before .before .before .before .before .before .loop .inv .0) (omega arith) (c .before .before .before .if1 .left) (c .before .before .if2 .left) (sym (c .before .is-atom-string-chr .ensures) ∙ not-true _ (c .if5 .taken)), λ z. absurd (z refl)))  -- returns-3
     (λ c. search needs)  -- loop-less-2
-    (λ c. let i = c .before .before .before .before .before .before .loop .inv in (on (i .0) (omega arith) (c .before .before .before .if1 .left) (c .before .before .if2 .left) (sym (c .before .is-string-byte .ensures) ∙ not-false _ (c .if5 .left)), omega (arith, i .1)))  -- loop-again-2
+    (λ c. let i = c .before .before .before .before .before .before .loop .inv in (on (i .0) (omega arith) (c .before .before .before .if1 .left) (c .before .before .if2 .left) (sym (c .before .is-atom-string-chr .ensures) ∙ not-false _ (c .if5 .left)), omega (arith, i .1)))  -- loop-again-2
     (λ c. (unclosed (c .before .loop .inv .0) (c .loop-test .left), λ z. absurd (z refl))))  -- returns-4

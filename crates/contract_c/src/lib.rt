@@ -1,0 +1,114 @@
+// Every exported call of sise_c, by its name without `sise_`, under the contract that it has there and with a body that only calls it: the promises of the
+// library on one page. An edit of must-fail/ puts a wrong program in the place of a body, and the contract has to refuse it.
+use sise_c::sise_check_atom;
+use sise_c::sise_index_path;
+use sise_c::sise_measure_tree;
+use sise_c::sise_parse_tree;
+use sise_c::sise_read_items;
+use sise_c::sise_serialize_tree;
+use sise_c::sise_write_calls;
+ghost use mathlib.Core.Path.{_≡_};
+ghost use Rattle.sise_util.specs.Atom.{isAtom};
+ghost use Rattle.sise_serializer.specs.Serializer.{style};
+ghost use Rattle.sise_tree.specs.IndexPath.{indexPath};
+ghost use Rattle.sise_tree.specs.ParseText.{parseText};
+ghost use Rattle.sise_tree_writer.specs.Writing.{writeText};
+ghost use Rattle.sise_c.specs.Reports.{checked, Reports, sizeOf, ReportsSize};
+ghost use Rattle.sise_c.specs.Items.{readItems};
+ghost use Rattle.sise_c.specs.Written.{WritesCalls};
+
+// What a call answers beside its result: the answer and 0, or the refusal's place and code point.
+pub type Values = [u64; 2];
+
+// Whether the bytes are an atom: 0 or 17.
+pub fn check_atom(atom: &[u8]) -> u32
+    ensures { λ r. ⌜ r ≡ checked (isAtom (now (atom .entry))) ⌝ }
+{
+    sise_check_atom(atom)
+}
+
+// Reads a whole text, which is one node, into the table. The first value is how many nodes it has.
+pub fn parse_tree(text: &[u8], table: &mut [u32], values: &mut Values) -> u32
+    ensures answer { λ r. ⌜ Reports (parseText (now (text .entry)) (now (table .entry)) .answer) r (now (values .exit)) ⌝ }
+    ensures words { λ r. ⌜ now (table .exit) ≡ parseText (now (text .entry)) (now (table .entry)) .words ⌝ }
+{
+    sise_parse_tree(text, table, values)
+}
+
+// Finds the node at the end of the path. The first value is its index in the table.
+pub fn index_path(table: &[u32], text: &[u8], path: &[u64], values: &mut Values) -> u32
+    ensures { λ r. ⌜ Reports (indexPath (now (table .entry)) (now (text .entry)) (now (path .entry))) r (now (values .exit)) ⌝ }
+{
+    sise_index_path(table, text, path, values)
+}
+
+// Writes the tree that the table holds over the text, and a line break after it if wished. The first value is how many bytes are written.
+pub fn serialize_tree(
+    line_break: &[u8],
+    indentation: &[u8],
+    buf: &mut [u8],
+    text: &[u8],
+    table: &[u32],
+    break_line_at: u64,
+    final_break: bool,
+    values: &mut Values,
+) -> u32
+    ensures answer { λ r. ⌜ Reports (sizeOf (writeText (style (now («line_break» .entry)) (now (indentation .entry))) (now (buf .entry)) (now (text .entry)) (now (table .entry)) «break_line_at» «final_break»)) r (now (values .exit)) ⌝ }
+    ensures bytes { λ r. ⌜ now (buf .exit) ≡ writeText (style (now («line_break» .entry)) (now (indentation .entry))) (now (buf .entry)) (now (text .entry)) (now (table .entry)) «break_line_at» «final_break» .buffer ⌝ }
+{
+    sise_serialize_tree(
+        line_break,
+        indentation,
+        buf,
+        text,
+        table,
+        break_line_at,
+        final_break,
+        values,
+    )
+}
+
+// Measures what serialize_tree writes, with no buffer. The first value is how many bytes that is.
+pub fn measure_tree(
+    line_break: &[u8],
+    indentation: &[u8],
+    text: &[u8],
+    table: &[u32],
+    break_line_at: u64,
+    final_break: bool,
+    values: &mut Values,
+) -> u32
+    ensures { λ r. ⌜ ReportsSize (λ b. writeText (style (now («line_break» .entry)) (now (indentation .entry))) b (now (text .entry)) (now (table .entry)) «break_line_at» «final_break») r (now (values .exit)) ⌝ }
+{
+    sise_measure_tree(
+        line_break,
+        indentation,
+        text,
+        table,
+        break_line_at,
+        final_break,
+        values,
+    )
+}
+
+// Reads the items of a whole text into words, four an item. The first value is how many items there are.
+pub fn read_items(text: &[u8], words: &mut [u64], values: &mut Values) -> u32
+    ensures answer { λ r. ⌜ Reports (readItems (now (text .entry)) (now (words .entry)) .answer) r (now (values .exit)) ⌝ }
+    ensures words { λ r. ⌜ now (words .exit) ≡ readItems (now (text .entry)) (now (words .entry)) .words ⌝ }
+{
+    sise_read_items(text, words, values)
+}
+
+// Runs a list of writer calls. The result is how many bytes of the buffer are written.
+pub fn write_calls(
+    words: &[u64],
+    atoms: &[u8],
+    line_break: &[u8],
+    indentation: &[u8],
+    buf: &mut [u8],
+    answers: &mut [u64],
+) -> u64
+    ensures { λ r. ⌜ WritesCalls (style (now («line_break» .entry)) (now (indentation .entry))) (now (words .entry)) (now (atoms .entry)) (now (buf .entry)) (now (answers .entry)) r (now (buf .exit)) (now (answers .exit)) ⌝ }
+{
+    sise_write_calls(words, atoms, line_break, indentation, buf, answers)
+}

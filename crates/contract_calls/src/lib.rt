@@ -1,0 +1,57 @@
+// The public calls of sise_serializer that run a list of calls or copy bytes, under the contract that each has there and with a body that only calls it:
+// the promises of the library on one page, with contract_writer. An edit of must-fail/ puts a wrong program in the place of a body, and the contract has
+// to refuse it.
+use sise_serializer::Ran;
+ghost use mathlib.Core.Path.{_≡_};
+ghost use mathlib.Core.List.{_++_};
+ghost use lib.ListN.{length};
+ghost use Rattle.sise_serializer.specs.Bytes.{pastedIf, repeat};
+ghost use Rattle.sise_serializer.specs.Serializer.{style};
+ghost use Rattle.sise_serializer.specs.Calls.{writing};
+ghost use Rattle.sise_serializer.specs.Words.{callsOf, Runs};
+
+// ---- calls.rt
+
+// Runs the calls that the words mean, each with the record that the last one left, and writes the word of each answer at the call's index.
+pub fn write_calls(
+    words: &[u64],
+    atoms: &[u8],
+    line_break: &[u8],
+    indentation: &[u8],
+    buf: &mut [u8],
+    answers: &mut [u64],
+) -> Ran
+    ensures { λ r. ⌜ Runs (writing (style (now («line_break» .entry)) (now (indentation .entry))) (now (buf .entry)) (callsOf (now (words .entry)) (now (atoms .entry)) (length (now (answers .entry))))) (callsOf (now (words .entry)) (now (atoms .entry)) (length (now (answers .entry)))) (now (answers .entry)) (r .serializer) (r .calls) (now (buf .exit)) (now (answers .exit)) ⌝ }
+{
+    sise_serializer::write_calls(words, atoms, line_break, indentation, buf, answers)
+}
+
+// The same by the four methods, one a call.
+pub fn write_calls_singly(
+    words: &[u64],
+    atoms: &[u8],
+    line_break: &[u8],
+    indentation: &[u8],
+    buf: &mut [u8],
+    answers: &mut [u64],
+) -> Ran
+    ensures { λ r. ⌜ Runs (writing (style (now («line_break» .entry)) (now (indentation .entry))) (now (buf .entry)) (callsOf (now (words .entry)) (now (atoms .entry)) (length (now (answers .entry))))) (callsOf (now (words .entry)) (now (atoms .entry)) (length (now (answers .entry)))) (now (answers .entry)) (r .serializer) (r .calls) (now (buf .exit)) (now (answers .exit)) ⌝ }
+{
+    sise_serializer::write_calls_singly(words, atoms, line_break, indentation, buf, answers)
+}
+
+// ---- buffer.rt
+
+// Copies `src` to the bytes of `buf` that begin at `at`, if they have room.
+pub fn paste(buf: &mut [u8], at: usize, src: &[u8])
+    ensures { λ _. ⌜ now (buf .exit) ≡ pastedIf (now (buf .entry)) at (now (src .entry)) ⌝ }
+{
+    sise_serializer::paste(buf, at, src);
+}
+
+// Copies a line break and `times` indentations, if they have room.
+pub fn paste_line(buf: &mut [u8], at: usize, line_break: &[u8], times: usize, indentation: &[u8])
+    ensures { λ _. ⌜ now (buf .exit) ≡ pastedIf (now (buf .entry)) at (now («line_break» .entry) ++ repeat times (now (indentation .entry))) ⌝ }
+{
+    sise_serializer::paste_line(buf, at, line_break, times, indentation);
+}

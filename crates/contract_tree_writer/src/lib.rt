@@ -1,0 +1,103 @@
+// Every public call of sise_tree_writer, under the contract that it has there and with a body that only calls it: the promises of the library on one
+// page. An edit of must-fail/ puts a wrong program in the place of a body, and the contract has to refuse it.
+use sise_serializer::Serializer;
+use sise_tree_writer::PutTree;
+use sise_tree_writer::TreeWrote;
+ghost use mathlib.Core.Path.{_≡_};
+ghost use mathlib.Core.List.{List};
+ghost use Prim.Native.Nat.{ℕ};
+ghost use lib.ListN.{length};
+ghost use Rattle.sise_serializer.specs.Serializer.{style};
+ghost use Rattle.sise_tree.specs.Answers.{numberOf};
+ghost use Rattle.sise_tree_writer.specs.Answers.{putAs};
+ghost use Rattle.sise_tree_writer.specs.SerializeTree.{houseTree, serializeTree, DoesWrite, DoesMeasure};
+ghost use Rattle.sise_tree_writer.specs.Writing.{writeText};
+
+// ---- serialize.rt
+
+// Writes the tree that the table holds over `text`, where the writer stands.
+pub fn serialize_tree(
+    serializer: Serializer,
+    line_break: &[u8],
+    indentation: &[u8],
+    buf: &mut [u8],
+    text: &[u8],
+    table: &[u32],
+    break_line_at: u64,
+) -> TreeWrote
+    ensures { λ r. ⌜ DoesWrite (serializeTree (style (now («line_break» .entry)) (now (indentation .entry))) (now (buf .entry)) serializer (now (text .entry)) (now (table .entry)) «break_line_at») r (now (buf .exit)) ⌝ }
+{
+    sise_tree_writer::serialize_tree(
+        serializer,
+        line_break,
+        indentation,
+        buf,
+        text,
+        table,
+        break_line_at,
+    )
+}
+
+// 01's number of an answer, 0 for an offset.
+pub fn number(answer: PutTree) -> u32
+    ensures { λ r. ⌜ r ≡ numberOf (putAs answer) ⌝ }
+{
+    answer.number()
+}
+
+// ---- whole.rt
+
+// Writes a whole text: the tree that the table holds over `text`, and a line break behind it if wished.
+pub fn write_text(
+    line_break: &[u8],
+    indentation: &[u8],
+    buf: &mut [u8],
+    text: &[u8],
+    table: &[u32],
+    break_line_at: u64,
+    final_break: bool,
+) -> TreeWrote
+    ensures { λ r. ⌜ DoesWrite (writeText (style (now («line_break» .entry)) (now (indentation .entry))) (now (buf .entry)) (now (text .entry)) (now (table .entry)) «break_line_at» «final_break») r (now (buf .exit)) ⌝ }
+{
+    sise_tree_writer::write_text(
+        line_break,
+        indentation,
+        buf,
+        text,
+        table,
+        break_line_at,
+        final_break,
+    )
+}
+
+// What write_text answers with a buffer of `room` bytes, and the record that it leaves. Nothing is written.
+pub fn measure_text(
+    line_break: &[u8],
+    indentation: &[u8],
+    room: usize,
+    text: &[u8],
+    table: &[u32],
+    break_line_at: u64,
+    final_break: bool,
+) -> TreeWrote
+    ensures { λ r. ⌜ ((b : List ℕ) → length b ≡ room → DoesMeasure (writeText (style (now («line_break» .entry)) (now (indentation .entry))) b (now (text .entry)) (now (table .entry)) «break_line_at» «final_break») r) ⌝ }
+{
+    sise_tree_writer::measure_text(
+        line_break,
+        indentation,
+        room,
+        text,
+        table,
+        break_line_at,
+        final_break,
+    )
+}
+
+// ---- house.rt
+
+// Writes a whole text in house style.
+pub fn serialize_house(buf: &mut [u8], text: &[u8], table: &[u32]) -> TreeWrote
+    ensures { λ r. ⌜ DoesWrite (houseTree (now (buf .entry)) (now (text .entry)) (now (table .entry))) r (now (buf .exit)) ⌝ }
+{
+    sise_tree_writer::serialize_house(buf, text, table)
+}

@@ -1,0 +1,80 @@
+-- How answers are reported: one that is answered, one of a tree call with another tag than the first, which is a refusal, and one that a call handed on.
+-- Assumes nothing.
+use Prim.Native.Nat.{ℕ}
+use mathlib.Core.Path.{_≡_, refl, sym, ap, _∙_, subst}
+use mathlib.Core.List.{List, [], _∷_}
+use types.Run.{OneOf}
+use denote.Enum.Declared.{tagOf}
+use Rattle.sise_serializer.proofs.Running.{no-zero}
+use Rattle.sise_tree.specs.Answers.{Answer, answered, parsedAs, indexedAs, numberOf, placeOf, codeOf}
+use Rattle.sise_tree_writer.specs.Answers.{putAs}
+use Rattle.sise_tree.specs.declared.parse.ParsedTree.{ParsedTree}
+use Rattle.sise_tree.specs.declared.parse.ParsedTree.the-variants as parsed
+use Rattle.sise_tree.proofs.parse.ParsedTree as parsings
+use Rattle.sise_tree.specs.declared.tree.Indexed.{Indexed}
+use Rattle.sise_tree.specs.declared.tree.Indexed.the-variants as indexed
+use Rattle.sise_tree.proofs.tree.Indexed as indexings
+use Rattle.sise_tree_writer.specs.declared.serialize.PutTree.{PutTree}
+use Rattle.sise_tree_writer.specs.declared.serialize.PutTree.the-variants as put
+use Rattle.sise_tree_writer.proofs.serialize.PutTree as puts
+use Rattle.sise_tree_writer.specs.declared.serialize.TreeWrote.{TreeWrote}
+use Rattle.sise_tree_writer.specs.SerializeTree.{writeTree, DoesWrite, DoesMeasure}
+use Rattle.sise_tree.specs.Tree.{Node}
+use Rattle.sise_serializer.specs.Calls.{Call}
+use Rattle.sise_serializer.specs.Serializer.{Style, freshSerializer}
+use Rattle.sise_serializer.specs.declared.serializer.Serializer.{Serializer}
+use Rattle.sise_c.specs.Reports.{valuesOf, Reports, sizeOr, sizeOf}
+
+-- the same answer by another name
+pub reports-by : {a b : Answer} {r m : ℕ} {now : List ℕ} → a ≡ b → r ≡ m → Reports b m now → Reports a r now
+reports-by e d t = record { result = d ∙ t .result ∙ ap numberOf (sym e); values = t .values ∙ ap valuesOf (sym e) }
+
+pub reports-answered : {a : Answer} {n : ℕ} → a ≡ answered n → Reports a 0 (n ∷ 0 ∷ [])
+reports-answered e = reports-by e refl (record { result = refl; values = refl })
+
+pub parsed-refusal : (a : ParsedTree) → OneOf (1 ∷ 2 ∷ 3 ∷ 4 ∷ []) (tagOf parsings.the-type a)
+    → Reports (parsedAs a) (numberOf (parsedAs a)) (placeOf (parsedAs a) ∷ codeOf (parsedAs a) ∷ [])
+parsed-refusal (parsed.Nodes n) k = absurd (no-zero 0 (1 ∷ 2 ∷ 3 ∷ []) k)
+parsed-refusal (parsed.Refused e) k = record { result = refl; values = refl }
+parsed-refusal (parsed.UnexpectedListEnd p) k = record { result = refl; values = refl }
+parsed-refusal parsed.TextTooLong k = record { result = refl; values = refl }
+parsed-refusal parsed.TableFull k = record { result = refl; values = refl }
+
+pub indexed-refusal : (a : Indexed) → OneOf (1 ∷ 2 ∷ 3 ∷ []) (tagOf indexings.the-type a) → Reports (indexedAs a) (numberOf (indexedAs a)) (0 ∷ 0 ∷ [])
+indexed-refusal (indexed.Node i) k = absurd (no-zero 0 (1 ∷ 2 ∷ []) k)
+indexed-refusal indexed.TextTooLong k = record { result = refl; values = refl }
+indexed-refusal indexed.NotATree k = record { result = refl; values = refl }
+indexed-refusal indexed.NoSuchNode k = record { result = refl; values = refl }
+
+pub put-refusal : (n : ℕ) (a : PutTree) → OneOf (1 ∷ 2 ∷ 3 ∷ 4 ∷ 5 ∷ 6 ∷ 7 ∷ []) (tagOf puts.the-type a)
+    → Reports (sizeOr n (putAs a)) (numberOf (putAs a)) (0 ∷ 0 ∷ [])
+put-refusal n (put.At o) k = absurd (no-zero 0 (1 ∷ 2 ∷ 3 ∷ 4 ∷ 5 ∷ 6 ∷ []) k)
+put-refusal n put.TextTooLong k = record { result = refl; values = refl }
+put-refusal n put.UnsoundRecord k = record { result = refl; values = refl }
+put-refusal n put.NotATree k = record { result = refl; values = refl }
+put-refusal n put.InvalidAtom k = record { result = refl; values = refl }
+put-refusal n put.WritingFinished k = record { result = refl; values = refl }
+put-refusal n put.TooDeep k = record { result = refl; values = refl }
+put-refusal n put.NoRoom k = record { result = refl; values = refl }
+
+-- a refusal's number, place and code point, as the three methods give them
+pub reports-refusal : (a : ParsedTree) {r p k : ℕ} → r ≡ numberOf (parsedAs a) → p ≡ placeOf (parsedAs a) → k ≡ codeOf (parsedAs a)
+    → OneOf (1 ∷ 2 ∷ 3 ∷ 4 ∷ []) (tagOf parsings.the-type a) → Reports (parsedAs a) r (p ∷ k ∷ [])
+reports-refusal a {k = k} d e f h =
+    let t = parsed-refusal a h in
+    record { result = d ∙ t .result; values = ap (λ (x : ℕ). x ∷ k ∷ []) e ∙ ap (λ (x : ℕ). placeOf (parsedAs a) ∷ x ∷ []) f ∙ t .values }
+
+-- what a tree's writing, and its measuring, promise of a fresh record
+module _ (s : Style) (buffer text words : List ℕ) (calls : Node → List Call) {q : Serializer} (e : q ≡ freshSerializer) {w : TreeWrote} {r : ℕ} {now : List ℕ} (t : Reports (sizeOr (w .serializer .position) (putAs (w .answer))) r now) where
+  pub reports-measured : DoesMeasure (writeTree s buffer q text words calls) w → Reports (sizeOf (writeTree s buffer freshSerializer text words calls)) r now
+  reports-measured d =
+      let p = subst (λ (x : Serializer). DoesMeasure (writeTree s buffer x text words calls) w) e d in
+      let z = ap (λ (x : Serializer). sizeOr (x .position) (putAs (w .answer))) (p .serializer) ∙ ap (sizeOr (writeTree s buffer freshSerializer text words calls .serializer .position)) (p .answer) in
+      reports-by (sym z) refl t
+
+  pub reports-written : {bytes : List ℕ} → DoesWrite (writeTree s buffer q text words calls) w bytes
+      → Reports (sizeOf (writeTree s buffer freshSerializer text words calls)) r now × (bytes ≡ writeTree s buffer freshSerializer text words calls .buffer)
+  reports-written {bytes} d = (
+    reports-measured (record { serializer = d .serializer; answer = d .answer }),
+    d .buffer ∙ ap (λ (x : Serializer). writeTree s buffer x text words calls .buffer) e,
+  )

@@ -1,0 +1,57 @@
+// How an answer is reported: its number as the result, its two values in the words that the caller lent.
+use sise_parser::ParseError;
+use sise_tree::Indexed;
+use sise_tree::ParsedTree;
+use sise_tree_writer::PutTree;
+ghost use Rattle.sise_parser.specs.Refusals.{refusalOf};
+ghost use Rattle.sise_tree.specs.Answers.{refused, indexedAs, parsedAs};
+ghost use Rattle.sise_tree_writer.specs.Answers.{putAs};
+ghost use Rattle.sise_c.specs.Reports.{Reports, sizeOr};
+
+// What a call answers beside its result.
+pub type Values = [u64; 2];
+
+pub(crate) fn report_indexed(answer: Indexed, values: &mut Values) -> u32
+    ensures { λ r. ⌜ Reports (indexedAs answer) r (now (values .exit)) ⌝ }
+{
+    if let Indexed::Node(index) = answer {
+        *values = [index as u64, 0];
+        return 0;
+    }
+    *values = [0, 0];
+    answer.number()
+}
+
+pub(crate) fn report_parsed(answer: ParsedTree, values: &mut Values) -> u32
+    ensures { λ r. ⌜ Reports (parsedAs answer) r (now (values .exit)) ⌝ }
+{
+    if let ParsedTree::Nodes(nodes) = answer {
+        *values = [nodes as u64, 0];
+        return 0;
+    }
+    let place = answer.place();
+    let code = answer.code();
+    *values = [place as u64, code as u64];
+    answer.number()
+}
+
+// A tree was written up to `position`, or refused.
+pub(crate) fn report_put(answer: PutTree, position: usize, values: &mut Values) -> u32
+    ensures { λ r. ⌜ Reports (sizeOr position (putAs answer)) r (now (values .exit)) ⌝ }
+{
+    if let PutTree::At(_) = answer {
+        *values = [position as u64, 0];
+        return 0;
+    }
+    *values = [0, 0];
+    answer.number()
+}
+
+pub(crate) fn report_refused(error: ParseError, values: &mut Values) -> u32
+    ensures { λ r. ⌜ Reports (refused (refusalOf error)) r (now (values .exit)) ⌝ }
+{
+    let place = error.place();
+    let code = error.code();
+    *values = [place as u64, code as u64];
+    error.number()
+}

@@ -1,0 +1,118 @@
+//! Makes each call of the library with arguments that all differ, and prints all that it answers and writes: what examples/c/calls.c prints. A call
+//! whose arguments came in another order would print something else. The texts at the limit come last.
+
+// The answers of single calls are printed as words, and not taken apart.
+#[allow(dead_code)]
+mod sise;
+
+use sise::{Refusal, Style};
+
+/// The style: two strings of different lengths.
+const STYLE: Style = Style {
+    line_break: b"\r\n",
+    indentation: b"\t\t\t",
+};
+
+const PROFILE: &[u8] = b"(stage (x -57.5) y)";
+const NODES: usize = 6;
+const ITEMS: usize = 8;
+const BUFFER: usize = 48;
+
+/// What stands in lent memory before a call.
+const UNTOUCHED: u8 = 46;
+
+/// The most bytes of a text that a tree call reads.
+const LONGEST: usize = 16_777_216;
+
+/// The result's number and the two values that came with it.
+fn numbers(result: Result<usize, Refusal>) -> (u32, u64, u64) {
+    match result {
+        Ok(answer) => (0, answer as u64, 0),
+        Err(Refusal::IllegalChr { place, chr }) => (1, place, u64::from(u32::from(chr))),
+        Err(Refusal::UnexpectedEof { place }) => (5, place, 0),
+        Err(Refusal::TextTooLong) => (13, 0, 0),
+        Err(refusal) => panic!("{refusal}"),
+    }
+}
+
+fn print_result(call: &str, result: Result<usize, Refusal>) {
+    let (number, first, second) = numbers(result);
+    println!("{call}: {number}, {first} {second}");
+}
+
+/// Prints the words, four a line.
+fn print_words(words: impl IntoIterator<Item = u64>) {
+    let words: Vec<String> = words.into_iter().map(|word| word.to_string()).collect();
+    for line in words.chunks(4) {
+        println!("{}", line.join(" "));
+    }
+}
+
+fn print_bytes(bytes: &[u8]) {
+    println!("{}", bytes.escape_ascii());
+}
+
+fn check_atoms() {
+    let number = |result: Result<(), Refusal>| match result {
+        Ok(()) => 0,
+        Err(Refusal::InvalidAtom) => 17,
+        Err(refusal) => panic!("{refusal}"),
+    };
+    println!("sise_check_atom: {}", number(sise::check_atom(b"x\" \"")));
+    println!("sise_check_atom: {}", number(sise::check_atom(b"x y")));
+}
+
+/// Reads the profile into a table, and a text that is refused into none of it.
+fn read_table() -> Vec<u32> {
+    let mut table = vec![u32::from(UNTOUCHED); 4 * NODES + 1];
+    print_result("sise_parse_tree", sise::parse_tree(b"(a ,)", &mut table));
+    print_result("sise_parse_tree", sise::parse_tree(PROFILE, &mut table));
+    print_words(table.iter().map(|word| u64::from(*word)));
+    table
+}
+
+fn write_table(table: &[u32]) {
+    let mut buf = [UNTOUCHED; BUFFER];
+    let measured = sise::measure_tree(STYLE, PROFILE, table, 9, true);
+    print_result("sise_measure_tree", measured);
+    let written = sise::serialize_tree(STYLE, &mut buf, PROFILE, table, 9, true);
+    print_result("sise_serialize_tree", written);
+    print_bytes(&buf);
+}
+
+/// Reads the profile's items, makes them calls at the threshold 9 with a finish behind them, and writes them again.
+fn write_items() {
+    let mut words = [u64::from(UNTOUCHED); 4 * ITEMS + 4];
+    let mut answers = [u64::from(UNTOUCHED); ITEMS + 2];
+    let mut buf = [UNTOUCHED; BUFFER];
+    print_result("sise_read_items", sise::read_items(b"(a ,)", &mut words));
+    print_result("sise_read_items", sise::read_items(PROFILE, &mut words));
+    print_words(words);
+    for call in words.chunks_mut(4).take(ITEMS) {
+        call[3] = 9;
+    }
+    words[4 * ITEMS] = 4;
+    let written = sise::write_calls(&words, PROFILE, STYLE, &mut buf, &mut answers);
+    println!("sise_write_calls: {written}");
+    print_words(answers);
+    print_bytes(&buf);
+}
+
+/// A text of spaces as long as a tree call reads, and one of a byte more: row 13 of document 01.
+fn read_longest() {
+    let text = vec![b' '; LONGEST + 1];
+    let mut table = [0; 4];
+    let longest = sise::parse_tree(&text[..LONGEST], &mut table);
+    print_result("16777216 spaces", longest);
+    print_result("16777217 spaces", sise::parse_tree(&text, &mut table));
+}
+
+fn main() {
+    check_atoms();
+    let table = read_table();
+    let node = sise::index_path(&table, PROFILE, &[1, 0]);
+    print_result("sise_index_path", node);
+    write_table(&table);
+    write_items();
+    read_longest();
+}
