@@ -17,9 +17,10 @@ unfoldable pub stepped : List ℕ → ℕ → ℕ → ℕ
 stepped words zero i = i
 stepped words (suc k) i = stepped words k (i + span words i)
 
--- from node i on there are more than k nodes, whose spans end in the table
+-- from node i on there are more than k nodes, children of one list, whose spans end in the table
 pub record MoreThan (words : List ℕ) (k i : ℕ) : Type 0 where
+  pub parent : ℕ
   pub count : ℕ
   pub end : ℕ
   pub below : k < count
-  pub filled : fillsIn words count i end ≡ true
+  pub filled : fillsIn words parent count i end ≡ true
