@@ -50,14 +50,14 @@ module _ (words : List ℕ) (p e : ℕ) (within : e ≤ length words / 4) where
       let q : suc c - 1 ≡ c = omega arith in
       rw (r, q, fills-within c (i + span words i), fills-within (suc c) i, lt-ltb i e h, le-leb 1 (span words i) (omega arith), t)
 
--- k and y are the words that the code has read
-pub linked-none : (words : List ℕ) (p i : ℕ) {k : ℕ} → k ≡ kind words i → (k ≡ 0 → ⊥) → linked words p i ≡ true
+pub linked-none : (words : List ℕ) (p i : ℕ) → (kind words i ≡ 0 → ⊥) → linked words p i ≡ true
 unfolding linked
-linked-none words p i e h = rw (ne-eqb (kind words i) 0 (λ z. h (e ∙ z)), linked)
+linked-none words p i h = rw (ne-eqb (kind words i) 0 h, linked)
 
-pub linked-list : (words : List ℕ) (p i : ℕ) {k y : ℕ} → k ≡ kind words i → y ≡ second words i → k ≡ 0 → linked words p i ≡ eqb y (i - p)
+-- y is the word that the code has read
+pub linked-list : (words : List ℕ) (p i : ℕ) {y : ℕ} → y ≡ second words i → kind words i ≡ 0 → linked words p i ≡ eqb y (i - p)
 unfolding linked
-linked-list words p i e r z = rw (sym e ∙ z, linked, r)
+linked-list words p i r z = rw (z, linked, r)
 
 pub good-outside : (l : ℕ) (words : List ℕ) (i : ℕ) → length words / 4 ≤ i → goodIn l words i ≡ false
 unfolding goodIn

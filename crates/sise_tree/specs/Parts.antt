@@ -1,12 +1,16 @@
 -- What the private functions of the trees do.
 -- Assumes nothing.
-use Prim.Native.Nat.{ℕ, zero, suc, _+_, _/_, _<_}
+use Prim.Native.Nat.{ℕ, zero, suc, _+_, _-_, _/_, _<_}
 use mathlib.Core.Path.{_≡_}
 use mathlib.Core.Bool.{Bool, true, _&&_}
 use mathlib.Core.List.{List}
 use lib.Dec.{ltb}
 use lib.ListN.{length}
 use Rattle.sise_tree.specs.Tree.{span, fillsIn, good}
+
+-- from node i on, so many children of a list, whichever it is, fill it up to node e exactly if the last of them do, after r of them with the span 1
+abbrev pub SameFrom : List ℕ → ℕ → ℕ → ℕ → ℕ → Type 0
+SameFrom words c i e r = (p : ℕ) → fillsIn words p (c - r) (i + r) e ≡ fillsIn words p c i e
 
 -- node i is in the table, and good
 unfoldable pub goodIn : ℕ → List ℕ → ℕ → Bool
