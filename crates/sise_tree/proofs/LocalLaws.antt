@@ -151,8 +151,8 @@ module _ (l : ℕ) (words : List ℕ) where
   sound-holds s =
       let e = span words 0 in
       let m : Made (second words 0) 0 =
-          made (omega (arith, s .begun, s .fit)) (s .each 0 (s .begun)) (λ k. refl)
-          (λ own. build e 0 1 (first words 0) (0 + 1) (0 + e) (omega arith) (omega (arith, s .fit)) refl own (λ k g o. s .each k (omega arith))) in
+      made (omega (arith, s .begun, s .fit)) (s .each 0 (s .begun)) (λ k. refl)
+      (λ own. build e 0 1 (first words 0) (0 + 1) (0 + e) (omega arith) (omega (arith, s .fit)) refl own (λ k g o. s .each k (omega arith))) in
       (m .node, spelt-holds (second words 0) (m .node) (drop (4 * (0 + e)) words) (m .spelt) (m .inText))
 
   each-one : {a : ℕ} → good l words a ≡ true → Each a (a + 1)

@@ -41,13 +41,12 @@ loop-again-2 c =
     let read = c .before .before .before in
     let room = read .before .before .before in
     let test = room .before in
-    let (within, before, same) = test .before .loop .inv in
-    (
+    let (within, before, same) = test .before .loop .inv in (
       within,
       omega arith,
       fills-step _ _ _ within _ _ (read .word .ensures .0) (test .loop-test .taken) (room .if2 .left) (c .before .before .if4 .left)
-      (sym (c .before .is-linked .ensures) ∙ not-false _ (c .if5 .left))
-      ∙ same,
+          (sym (c .before .is-linked .ensures) ∙ not-false _ (c .if5 .left))
+          ∙ same,
     )
 
 pub fills-spec : {M : Type 1} → statement M
