@@ -12,7 +12,7 @@ use mathlib.Core.List.{List, _∷_, _++_, append-assoc}
 use lib.Dec.{leb, ltb, eqb}
 use lib.ListN.{length, getD, drop, length-append, length-drop}
 use lib.Seq.{drop-drop, drop-at, getD-drop}
-use borrow.Author.Tests.{ltb-true, ltb-false, leb-true, eqb-true, lt-ltb, le-leb, eq-eqb}
+use borrow.Author.Tests.{ltb-true, ltb-false, leb-true, eqb-true, eqb-false, lt-ltb, le-leb, eq-eqb}
 use Rattle.sise_util.proofs.Ranges.{split, and-first, both}
 use Rattle.sise_tree.specs.Tree.{Node, atom, list, Nodes, empty, _then_, size, sizes, children, tableAt, tables, lies, liesAll, Holds, kind, first, second, span, linked, fills, fillsIn, good, HoldsTree}
 use Rattle.sise_tree.specs.Decision.{isSome, decide}
@@ -199,6 +199,40 @@ module _ (l : ℕ) (words : List ℕ) where
               (both _ _ (lt-ltb a _ (omega (arith, size-pos n))) (both _ _ (le-leb 1 _ (size-pos n)) (both _ _ (third-linked words p d n after q e′) (rw z at next)))),
           each-join each (rw z at others),
         )
+
+  -- "A subtree is the part of the table from its node": from each node of a tree on, the words hold one
+  abbrev Subtree : ℕ → Type 0
+  Subtree k = (m : Node) × Holds l (drop (4 * k) words) m
+
+  its-subtree : (d : ℕ) (n : Node) (a : ℕ) (rest : List ℕ) → drop (4 * a) words ≡ tableAt d n ++ rest → lies l n ≡ true → Subtree a
+  its-subtree d n a rest e t = (n, spelt-holds d n rest e t)
+
+  mutual
+    unfolding size sizes tableAt tables lies liesAll
+
+    node-subtree :
+        (d : ℕ) (n : Node) (a : ℕ) (rest : List ℕ) → drop (4 * a) words ≡ tableAt d n ++ rest → lies l n ≡ true
+        → (k : ℕ) → a ≤ k → k < a + size n → Subtree k
+    node-subtree d (atom p m) a rest e t k g o = let z : a ≡ k = omega arith in rw z at (its-subtree d (atom p m) a rest e t)
+    node-subtree d (list c) a rest e t k g o =
+        split (eqb a k)
+        (λ z. rw (eqb-true a k z) at (its-subtree d (list c) a rest e t))
+        (λ z. let other = eqb-false a k z in row-subtree 1 c (a + 1) rest (stands words a e .after) t k (omega arith) (omega arith))
+
+    row-subtree :
+        (d : ℕ) (c : Nodes) (a : ℕ) (rest : List ℕ) → drop (4 * a) words ≡ tables d c ++ rest → liesAll l c ≡ true
+        → (k : ℕ) → a ≤ k → k < a + sizes c → Subtree k
+    row-subtree d empty a rest e t k g o = absurd (omega arith)
+    row-subtree d (n then c) a rest e t k g o =
+        anded t λ here more.
+        let after = tables (d + size n) c ++ rest in
+        let e′ : drop (4 * a) words ≡ tableAt d n ++ after = rw append-assoc at e in
+        split (ltb k (a + size n))
+        (λ z. node-subtree d n a after e′ here k g (ltb-true k (a + size n) z))
+        (λ z. row-subtree (d + size n) c (a + size n) rest (skip words d n a after e′) more k (ltb-false k (a + size n) z) (omega arith))
+
+  pub subtree : {n : Node} → Holds l words n → (k : ℕ) → k < size n → Subtree k
+  subtree {n} h k o = node-subtree (second words 0) n 0 (drop (4 * size n) words) (holds-words h) (h .inText) k (omega arith) (omega arith)
 
   -- what a table that holds n has
   pub record Held (n : Node) : Type 0 where

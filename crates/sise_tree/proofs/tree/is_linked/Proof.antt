@@ -1,4 +1,4 @@
--- No list is asked for a distance; a list's third word is compared with it.
+-- A node that is no list is not asked for a distance; a list's third word is compared with it.
 -- Assumes nothing.
 use native.Mathlib.Omega.{arith}
 use mathlib.Core.Path.{sym, _∙_}
