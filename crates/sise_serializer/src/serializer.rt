@@ -13,12 +13,12 @@ use crate::buffer::write_token;
 use sise_util::check_atom;
 use sise_util::is_plain;
 ghost use mathlib.Core.Path.{_≡_};
-ghost use mathlib.Core.Bool.{true, _||_, cond};
+ghost use mathlib.Core.Bool.{true, false, _||_, cond};
 ghost use mathlib.Core.List.{[]};
 ghost use Prim.Native.Nat.{_≤_, _<_};
 ghost use lib.ListN.{length};
 ghost use Rattle.sise_util.specs.Atom.{isAtom};
-ghost use Rattle.sise_serializer.specs.Serializer.{limit, freshSerializer, style, listsFit, lastBreak, isSound, answerAs, numberOf, phaseAfter, newLine, innerAs, close, last};
+ghost use Rattle.sise_serializer.specs.Serializer.{limit, freshSerializer, style, listsFit, lastBreak, isSound, answerAs, numberOf, phaseAfter, newLine, innerAs, closeAs, last};
 ghost use Rattle.sise_serializer.specs.Calls.{Does, putAtomCall, beginListCall, endListCall, finishCall};
 ghost use Rattle.sise_serializer.specs.Parts.{Small, Places, itemCall, addedWith, inLine, tokenOf, gapBytes, firstItem};
 
@@ -441,52 +441,68 @@ pub(crate) fn close_list(
     let phase = w.phase;
     match phase {
         Phase::Beginning => return refused(w, Put::NoListToEnd),
-        Phase::Writing => return close(w, line_break, indentation, buf),
+        Phase::Writing => {
+            if w.broken == w.lists {
+                return close_on_new_line(w, line_break, indentation, buf);
+            }
+            return close_in_line(w, buf);
+        }
         Phase::Finished => return refused(w, Put::WritingFinished),
         Phase::Done => return refused(w, Put::WritingFinished),
     }
 }
 
-// The `)` of the innermost list, on a line of its own if a break is in the list: then one is in every open list, and stays in those left.
-fn close(w: Serializer, line_break: &[u8], indentation: &[u8], buf: &mut [u8]) -> Wrote
-    requires { ⌜ Small w × (0 < w .lists) × (w .broken ≤ w .lists) ⌝ }
-    ensures { λ r. ⌜ Places (close (style (now («line_break» .entry)) (now (indentation .entry))) w) w (now (buf .entry)) r (now (buf .exit)) ⌝ }
+// A `)` on a line of its own, since a break is in its list. Then one is in every open list, and stays in those left.
+fn close_on_new_line(w: Serializer, line_break: &[u8], indentation: &[u8], buf: &mut [u8]) -> Wrote
+    requires { ⌜ (Small w × (0 < w .lists)) × (w .broken ≡ w .lists) ⌝ }
+    ensures { λ r. ⌜ Places (closeAs (style (now («line_break» .entry)) (now (indentation .entry))) w true) w (now (buf .entry)) r (now (buf .exit)) ⌝ }
 {
     let position = w.position;
     let left = w.lists - 1;
-    if w.broken == w.lists {
-        let size = indentation.len();
-        match find_spot(position, buf.len(), line_break.len(), left, size, 1) {
-            Spot::At(at, end) => {
-                write_line(buf, position, line_break, left, indentation);
-                buf[at] = 41;
-                return Wrote {
-                    serializer: Serializer {
-                        position: end,
-                        lists: left,
-                        broken: left,
-                        line_len: left * size + 1,
-                        spaces: w.spaces,
-                        breaks: w.breaks + 1,
-                        indents: w.indents + left,
-                        phase: phase_after(left),
-                        list_beginning: false,
-                    },
-                    answer: Put::At(at),
-                };
-            }
-            Spot::NoRoom => return refused(w, Put::NoRoom),
+    let size = indentation.len();
+    match find_spot(position, buf.len(), line_break.len(), left, size, 1) {
+        Spot::At(at, end) => {
+            write_line(buf, position, line_break, left, indentation);
+            buf[at] = 41;
+            let line_len = left * size + 1;
+            let breaks = w.breaks + 1;
+            let indents = w.indents + left;
+            return Wrote {
+                serializer: Serializer {
+                    position: end,
+                    lists: left,
+                    broken: left,
+                    line_len,
+                    spaces: w.spaces,
+                    breaks,
+                    indents,
+                    phase: phase_after(left),
+                    list_beginning: false,
+                },
+                answer: Put::At(at),
+            };
         }
+        Spot::NoRoom => return refused(w, Put::NoRoom),
     }
+}
+
+// A `)` in the same line.
+fn close_in_line(w: Serializer, buf: &mut [u8]) -> Wrote
+    requires { ⌜ Small w × (w .broken < w .lists) ⌝ }
+    ensures { λ r. ⌜ Places (closeAs (style [] []) w false) w (now (buf .entry)) r (now (buf .exit)) ⌝ }
+{
+    let position = w.position;
+    let left = w.lists - 1;
     match find_spot(position, buf.len(), 0, 0, 0, 1) {
         Spot::At(at, end) => {
             buf[at] = 41;
+            let line_len = w.line_len + 1;
             return Wrote {
                 serializer: Serializer {
                     position: end,
                     lists: left,
                     broken: w.broken,
-                    line_len: w.line_len + 1,
+                    line_len,
                     spaces: w.spaces,
                     breaks: w.breaks,
                     indents: w.indents,
@@ -539,6 +555,7 @@ fn last(w: Serializer, line_break: &[u8], buf: &mut [u8], insert_line_break: boo
     match find_spot(position, buf.len(), lead, 0, 0, 0) {
         Spot::At(at, end) => {
             write_break(buf, position, line_break, insert_line_break);
+            let breaks = w.breaks + one_if(insert_line_break);
             return Wrote {
                 serializer: Serializer {
                     position: end,
@@ -546,7 +563,7 @@ fn last(w: Serializer, line_break: &[u8], buf: &mut [u8], insert_line_break: boo
                     broken: w.broken,
                     line_len: w.line_len,
                     spaces: w.spaces,
-                    breaks: w.breaks + one_if(insert_line_break),
+                    breaks,
                     indents: w.indents,
                     phase: Phase::Done,
                     list_beginning: w.list_beginning,

@@ -1,20 +1,13 @@
--- The two cases of `cond` in the definition: a new list, whose flag is set to false, or none.
+-- The two cases of `cond` in the definition: a list more, or none.
 -- Assumes nothing.
-use native.Mathlib.Omega.{arith}
-use Rattle.sise_serializer.proofs.steps.added.Statement.{statement}
-use Rattle.sise_serializer.proofs.steps.added.Tie as tie
-
-element-write-flags : tie.Need-element-write-flags
-element-write-flags c = omega (arith, c .before .pre (c .if1 .taken))
-
-add-open : tie.Need-add-open
-add-open c = omega (arith, c .before .pre (c .if1 .taken))
-
-returns : tie.Need-returns
-returns c = rw (c .if1 .taken)
-
-returns-2 : tie.Need-returns-2
-returns-2 c = rw (c .if1 .left)
+use borrow.Author.Needs.{needs}
+use Rattle.sise_serializer.proofs.serializer.added.Statement.{statement}
+use Rattle.sise_serializer.proofs.serializer.added.Tie as tie
 
 pub added-spec : {M : Type 1} → statement M
-added-spec = tie.close (tie.spec element-write-flags add-open returns returns-2)
+added-spec =
+    tie.close
+    (tie.spec
+    (λ c. search needs)  -- add-open
+    (λ c. rw (c .if1 .taken))  -- returns
+    (λ c. rw (c .if1 .left)))  -- returns-2

@@ -4,8 +4,8 @@ use mathlib.Core.Path.{sym, _∙_}
 use mathlib.Core.Logic.{⊎-elim}
 use borrow.Author.Needs.{needs}
 use Rattle.sise_util.proofs.AtomLaws.{plain-atom}
-use Rattle.sise_serializer.proofs.steps.is_item.Statement.{statement}
-use Rattle.sise_serializer.proofs.steps.is_item.Tie as tie
+use Rattle.sise_serializer.proofs.serializer.is_item.Statement.{statement}
+use Rattle.sise_serializer.proofs.serializer.is_item.Tie as tie
 
 is-plain-requires : tie.Need-is-plain-requires
 is-plain-requires c κs = search needs

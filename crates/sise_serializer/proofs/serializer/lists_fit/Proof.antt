@@ -1,8 +1,8 @@
 -- In each phase, the test of the definition.
 -- Assumes nothing.
 use borrow.Author.Needs.{needs}
-use Rattle.sise_serializer.proofs.steps.lists_fit.Statement.{statement}
-use Rattle.sise_serializer.proofs.steps.lists_fit.Tie as tie
+use Rattle.sise_serializer.proofs.serializer.lists_fit.Statement.{statement}
+use Rattle.sise_serializer.proofs.serializer.lists_fit.Tie as tie
 
 enum-told : tie.Need-enum-told
 enum-told c = search needs

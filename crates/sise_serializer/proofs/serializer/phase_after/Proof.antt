@@ -2,8 +2,8 @@
 -- Assumes nothing.
 use borrow.Author.Tests.{eq-eqb, ne-eqb}
 use Rattle.sise_serializer.specs.Serializer.{phaseAfter}
-use Rattle.sise_serializer.proofs.steps.phase_after.Statement.{statement}
-use Rattle.sise_serializer.proofs.steps.phase_after.Tie as tie
+use Rattle.sise_serializer.proofs.serializer.phase_after.Statement.{statement}
+use Rattle.sise_serializer.proofs.serializer.phase_after.Tie as tie
 
 returns : tie.Need-returns
 unfolding phaseAfter
