@@ -27,7 +27,7 @@ fn smaller(a: usize, b: usize) -> usize
 fn has_room(left: usize, times: usize, size: usize) -> bool
     ensures { λ r. ⌜ r ≡ leb (times * size) left ⌝ }
 {
-    if times <= 256 && size <= LIMIT {
+    if times <= LIMIT && size <= LIMIT {
         return times * size <= left;
     }
     if size == 0 {

@@ -1,6 +1,6 @@
 -- A small product is formed, and decides; else without bytes everything fits, and n strings of s bytes fit into m bytes exactly if n is at most m / s.
 -- Assumes nothing.
-use native.Mathlib.Nat.{mul-le-mul-right}
+use native.Mathlib.Nat.{mul-le-mul}
 use native.Mathlib.Omega.{arith}
 use mathlib.Core.Path.{sym}
 use borrow.Author.Needs.{needs}
@@ -10,7 +10,7 @@ use Rattle.sise_serializer.proofs.buffer.has_room.Statement.{statement}
 use Rattle.sise_serializer.proofs.buffer.has_room.Tie as tie
 
 mul-result : tie.Need-mul-result
-mul-result c = let a = c .before .before .args in omega (arith, leb-true, mul-le-mul-right (a .size) (c .before .if1 .taken))
+mul-result c = omega (arith, mul-le-mul (c .before .if1 .taken) (c .if2 .taken))
 
 returns : tie.Need-returns
 returns c = search needs
