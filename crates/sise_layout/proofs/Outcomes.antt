@@ -22,7 +22,7 @@ module _ (s : Style) (room : ℕ) (w : Serializer) (i : Aligned w) where
   put-outcome c p (atomAlone {a = a} f h) = adds (atom a) (firstAtom w a) (first-atom s w i f a h) (λ o. refl)
   put-outcome c p (atomInside {a = a} {t = t} f h) = adds (atom a) (inner s w a false t) (inner-atom s w t i f a h) (λ o. refl)
   put-outcome c p (listFirst f) = adds listStart (firstList w) (first-list s w i f) (λ o. refl)
-  put-outcome c p (listInside {t = t} f h) = adds listStart (inner s w (40 ∷ []) true t) (inner-list s w t i f) (λ o. refl)
+  put-outcome c p (listInside {t = t} f) = adds listStart (inner s w (40 ∷ []) true t) (inner-list s w t i f) (λ o. refl)
   put-outcome c p (listClosed f) = adds listEnd (close s w) (close-list s w i f) (λ o. refl)
   put-outcome c p (textEnded {wished = wished} f) = ends wished f (λ o. refl)
 

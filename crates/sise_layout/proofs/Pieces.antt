@@ -7,7 +7,7 @@ use mathlib.Core.Path.{_≡_, refl, sym}
 use mathlib.Core.Bool.{Bool, true, false, not, cond, false≢true}
 use mathlib.Core.List.{List, [], _∷_, _++_, append-assoc}
 use lib.Dec.{eqb, ltb}
-use lib.ListN.{length, getD}
+use lib.ListN.{length}
 use borrow.Author.Tests.{eqb-true, eqb-false, leb-true, ne-eqb, le-leb}
 use Rattle.sise_util.specs.Chars.{oneOf}
 use Rattle.sise_util.specs.Classes.{classOf}
@@ -276,4 +276,4 @@ module _ (s : Style) (w : Serializer) (i : Aligned w) (f : w .phase ≡ Writing)
 
   pub close-list : Adds s w listEnd (close s w)
   unfolding close
-  close-list = close-adds (getD (w .«line_broken») (w .lists - 1) false)
+  close-list = close-adds (eqb (w .broken) (w .lists))

@@ -165,7 +165,15 @@ impl Serializer {
         if !self.is_sound() {
             return refused(self, Put::UnsoundRecord);
         }
-        put_item(self, line_break, indentation, buf, atom, false, break_line_at)
+        put_item(
+            self,
+            line_break,
+            indentation,
+            buf,
+            atom,
+            false,
+            break_line_at,
+        )
     }
 
     // Begins a list. Inside another it goes on a new line if the line is at least `break_line_at` bytes long.

@@ -15,6 +15,6 @@ is-linked-spec =
     (λ c κs. c .before .pre .1)  -- is-list-requires
     (λ c. sym (linked-none _ _ _ (eqb-false _ 0 (sym (c .before .is-list .ensures) ∙ not-true _ (c .if1 .taken)))))  -- returns
     (λ c κs. omega (arith, c .before .before .before .pre .1))  -- word-requires
-    (λ c. c .before .before .before .before .pre .0)  -- sub-result
+    (λ c. search needs)  -- sub-result
     -- returns-2
     (λ c. sym (linked-list _ _ _ (c .word .ensures .0) (eqb-true _ 0 (sym (c .before .before .is-list .ensures) ∙ not-false _ (c .before .if1 .left))))))
