@@ -37,7 +37,7 @@ fn has_room(left: usize, times: usize, size: usize) -> bool
 }
 
 // The spot of a token of `token` bytes behind `lead` bytes and `times` indentations, the whole beginning at `position` in a buffer of `room` bytes.
-pub(crate) fn find_spot(
+pub fn find_spot(
     position: usize,
     room: usize,
     lead: usize,
@@ -159,7 +159,7 @@ pub(crate) fn write_gap(buf: &mut [u8], at: usize, joins: bool)
 }
 
 // The bytes of an item's token: a parenthesis, or the atom.
-pub(crate) fn token_len(atom: &[u8], is_list: bool) -> usize
+pub fn token_len(atom: &[u8], is_list: bool) -> usize
     ensures { λ r. ⌜ r ≡ length (tokenOf «is_list» (now (atom .entry))) ⌝ }
 {
     if is_list { 1 } else { atom.len() }

@@ -4,8 +4,11 @@ mod calls;
 mod serializer;
 
 pub use buffer::LIMIT;
+pub use buffer::Spot;
+pub use buffer::find_spot;
 pub use buffer::paste;
 pub use buffer::paste_line;
+pub use buffer::token_len;
 pub use calls::Ran;
 pub use calls::has_call;
 pub use calls::put_word;
