@@ -15,7 +15,6 @@ use Rattle.sise_serializer.specs.Serializer.{Answer, refused, answerAs, 
 use Rattle.sise_serializer.specs.Calls.{Call, putAtomCall, beginListCall, endListCall, finishCall, step}
 use Rattle.sise_serializer.specs.Parts.{Places, spotOf, inLine, gapBytes}
 use Rattle.sise_serializer.specs.declared.serializer.Phase.{Phase}
-use Rattle.sise_serializer.specs.declared.serializer.Phase.the-variants.{Beginning, Writing, Finished, Done}
 use Rattle.sise_serializer.specs.declared.serializer.Serializer.{Serializer}
 use Rattle.sise_serializer.specs.declared.serializer.Wrote.{Wrote}
 use Rattle.sise_serializer.specs.declared.buffer.Spot.{Spot}

@@ -13,7 +13,7 @@ use lib.ListN.{length, getD, take, drop, set, length-drop, length-set}
 use lib.Seq.{take-nil, drop-cons, take-suc-set, drop-set-lt, append-snoc}
 use types.Run.{OneOf}
 use denote.Enum.Declared.{tagOf}
-use borrow.Author.Tests.{leb-true, leb-false, le-leb, lt-leb, eq-eqb, ne-eqb, eqb-true, eqb-false}
+use borrow.Author.Tests.{leb-true, leb-false, le-leb, lt-leb, eq-eqb, ne-eqb}
 use Rattle.sise_parser.specs.Reader.{partOf}
 use Rattle.sise_util.proofs.Ranges.{split, and-first, and-second}
 use Rattle.sise_serializer.specs.Bytes.{pasted}
@@ -24,7 +24,7 @@ use Rattle.sise_serializer.specs.declared.serializer.Put.the-variants.{A
 use Rattle.sise_serializer.proofs.serializer.Put as puts
 use Rattle.sise_serializer.proofs.Bytes.{pasted-none}
 use Rattle.sise_serializer.proofs.Kept.{fresh-sound, sound-kept}
-use Rattle.sise_serializer.specs.Calls.{Call, putAtomCall, beginListCall, endListCall, finishCall, step, run, writing}
+use Rattle.sise_serializer.specs.Calls.{Call, putAtomCall, beginListCall, endListCall, finishCall, step, run}
 use Rattle.sise_serializer.specs.Words.{callOf, callAt, hasCall, decoded, callsOf, answerWord, Runs}
 
 -- ---- the call of a kind

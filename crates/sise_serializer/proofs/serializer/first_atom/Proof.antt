@@ -22,7 +22,7 @@ first-atom-spec =
     (λ c. let a = c .before .before .before .before .before .before .before .before .before .before .args in
     let t = c .before .before .before .before .before .at .given .1 in
     let h = found _ _ _ _ (sym t ∙ c .before .before .before .before .before .before .before .find-spot .ensures) in
-    placed (a .w) (a .buf .now) (firstAtom (a .w) (a .atom .now)) (c .before .before .before .before .before .before .before .find-spot .ensures) t (λ x. rw (x, add-zero)) (c .before .before .copy .ensures ∙ rw (h .offset, add-zero)))  -- returns
+    placed (a .w) (a .buf .now) (firstAtom (a .w) (a .atom .now)) (c .before .before .before .before .before .before .before .find-spot .ensures) t (λ x. rw (x, add-zero (a .w .position))) (c .before .before .copy .ensures ∙ rw (h .offset, add-zero (a .w .position))))  -- returns
     (λ c. search needs)  -- enum-told
     (λ c κs. search needs)  -- refused-requires
     (λ c. let a = c .before .before .before .before .before .before .args in full (a .w) (a .buf .now) (firstAtom (a .w) (a .atom .now)) (c .before .before .before .find-spot .ensures) (c .refused .ensures) (c .before .enum-told .given .1)))  -- returns-2

@@ -24,8 +24,8 @@ first-list-spec =
     (λ c. let a = c .before .before .before .before .before .before .args in
     let t = c .before .before .at .given .1 in
     let h = found _ _ _ _ (sym t ∙ c .before .before .before .before .find-spot .ensures) in
-    placed (a .w) (a .buf .now) (firstList (a .w)) (c .before .before .before .before .find-spot .ensures) t (λ x. c .added .ensures ∙ rw (x, add-zero))
-    (pasted-one (a .buf .now) _ 40 (omega (arith, h .in-room, h .offset)) ∙ rw (h .offset, add-zero)))  -- returns
+    placed (a .w) (a .buf .now) (firstList (a .w)) (c .before .before .before .before .find-spot .ensures) t (λ x. c .added .ensures ∙ rw (x, add-zero (a .w .position)))
+    (pasted-one (a .buf .now) _ 40 (omega (arith, h .in-room, h .offset)) ∙ rw (h .offset, add-zero (a .w .position))))  -- returns
     (λ c. search needs)  -- enum-told
     (λ c κs. search needs)  -- refused-requires
     (λ c. let a = c .before .before .before .before .before .args in full (a .w) (a .buf .now) (firstList (a .w)) (c .before .before .before .find-spot .ensures) (c .refused .ensures) (c .before .enum-told .given .1)))  -- returns-2
