@@ -1,5 +1,5 @@
 -- The rule with a flag for each open list and the rule with one number give the same answers, bytes, offsets and counts, for every list of calls that
--- does not meet 21: the number is how many lists are open inside the outermost up to the innermost one whose flag is set. The statement is `flags-same`.
+-- does not meet 21: the number counts the lists from the outermost to the innermost one whose flag is set. The statement is `flags-same`.
 -- Assumes nothing.
 use Prim.Native.Nat.{ℕ, suc, _+_, _-_, _*_, _≤_, _<_, min}
 use native.Mathlib.Omega.{arith}

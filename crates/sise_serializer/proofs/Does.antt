@@ -61,29 +61,29 @@ module _ (w : Serializer) (before : List ℕ) where
 
 -- the gap, from the two tests of the code
 module _ (w : Serializer) (t : ℕ) where
-  gap-new-line : t ≤ w .«line_len» → gapAt w t ≡ newLine
+  pub gap-new-line : t ≤ w .«line_len» → gapAt w t ≡ newLine
   gap-new-line h = simp (le-ltb _ _ h)
 
-  gap-nothing : w .«line_len» < t → w .«list_beginning» ≡ true → gapAt w t ≡ nothing
+  pub gap-nothing : w .«line_len» < t → w .«list_beginning» ≡ true → gapAt w t ≡ nothing
   gap-nothing h b = simp (lt-ltb _ _ h, b)
 
-  gap-space : w .«line_len» < t → w .«list_beginning» ≡ false → gapAt w t ≡ space
+  pub gap-space : w .«line_len» < t → w .«list_beginning» ≡ false → gapAt w t ≡ space
   gap-space h b = simp (lt-ltb _ _ h, b)
 
 -- an item behind that gap: on a new line, or in the same one behind a space unless a list begins
 module _ (s : Style) (w : Serializer) (token : List ℕ) (isList : Bool) (t : ℕ) where
-  inner-is : {g : Gap} → gapAt w t ≡ g → inner s w token isList t ≡ innerAs s w token isList g
+  pub inner-is : {g : Gap} → gapAt w t ≡ g → inner s w token isList t ≡ innerAs s w token isList g
   unfolding inner
   inner-is gap = ap (innerAs s w token isList) gap
 
   pub new-line-is : t ≤ w .«line_len» → inner s w token isList t ≡ innerAs s w token isList newLine
   new-line-is h = inner-is (gap-new-line w t h)
 
-  nothing-is : gapAt w t ≡ nothing → inner s w token isList t ≡ inLine w token isList []
+  pub nothing-is : gapAt w t ≡ nothing → inner s w token isList t ≡ inLine w token isList []
   unfolding innerAs laid inLine
   nothing-is gap = inner-is gap ∙ rw (add-zero (w .«line_len»), add-zero (w .spaces))
 
-  space-is : gapAt w t ≡ space → inner s w token isList t ≡ inLine w token isList (32 ∷ [])
+  pub space-is : gapAt w t ≡ space → inner s w token isList t ≡ inLine w token isList (32 ∷ [])
   unfolding innerAs laid inLine
   space-is gap = inner-is gap
 

@@ -1,6 +1,6 @@
 // The writer's record and its four calls. A method tests the record and goes on to the function below that wants a sound one; that one finds out whether
-// the call fits before it writes. Each arm of a `match` returns by itself: what an arm yields would be copied once more. Each function that takes the record
-// has one caller: then it becomes a part of it, and the record stays in registers.
+// the call fits before it writes. Each arm of a `match` returns by itself: what an arm yields would be copied once more. A function with one caller becomes
+// a part of it, and then the record stays in registers: so an atom and a list have functions of their own, though they are much alike.
 use crate::buffer::LIMIT;
 use crate::buffer::Spot;
 use crate::buffer::break_len;
