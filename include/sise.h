@@ -50,6 +50,9 @@ extern "C" {
 /* The largest threshold: no line is ever broken. */
 #define SISE_ONE_LINE UINT64_MAX
 
+/* The threshold of the house style. */
+#define SISE_HOUSE_THRESHOLD 72
+
 /* Refusals. 9 to 12 are numbers of calls that go item by item, which this library does not have. */
 enum sise_refusal {
     SISE_OK = 0,
@@ -104,8 +107,9 @@ uint32_t sise_index_path(const uint32_t *table, size_t table_len, const uint8_t 
  * In a list, an atom or a list goes to a new line, behind one indentation for each open list, where the line is break_line_at
  * bytes long or longer; else behind a space, a first child behind none. A first child that is an atom stays on the line of its
  * `(`. A list that has a line broken in it closes on a line of its own. 0 breaks every line, SISE_ONE_LINE none.
- * With final_break a line_break is written behind the tree. House style is "\n", "  ", 0 and true. Both strings are written as
- * they are: only if they are blank (space, tab, LF, CR) and line_break is not empty does the text read back as this tree.
+ * With final_break a line_break is written behind the tree. House style is "\n", "  ", SISE_HOUSE_THRESHOLD and true; a program
+ * that wants every line broken names 0. Both strings are written as they are: only if they are blank (space, tab, LF, CR) and
+ * line_break is not empty does the text read back as this tree.
  * Refused: 13; 15; 17, if what the table calls an atom is none; 21; 22, which sise_measure_tree says beforehand.
  */
 uint32_t sise_serialize_tree(const uint8_t *line_break, size_t line_break_len, const uint8_t *indentation,

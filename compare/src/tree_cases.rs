@@ -6,8 +6,8 @@ use crate::options::Options;
 use crate::random::Random;
 use crate::tree_case::{TreeCase, LONGEST_PATH, MOST_WORDS};
 use crate::tree_examples;
-use crate::tree_judge::HOUSE;
-use crate::tree_model::{held, opened, parse_tree, serialize_house, serialize_tree, Node};
+use crate::tree_judge::{house_thresholds, HOUSE};
+use crate::tree_model::{held, opened, parse_tree, serialize_house_at, serialize_tree, Node};
 use crate::writer_cases::{style, STYLES};
 use crate::writer_model::Model;
 use crate::writing::LARGEST_ROOM;
@@ -206,7 +206,7 @@ fn first(random: &mut Random, words: usize) -> usize {
     }
 }
 
-/// A buffer that one of the two writings fills exactly or is a byte too long for, or an ample one.
+/// A buffer that one of the writings fills exactly or is a byte too long for, or an ample one.
 fn room(random: &mut Random, case: &TreeCase) -> usize {
     let choice = random.below(8);
     if choice > 3 {
@@ -225,7 +225,8 @@ fn room(random: &mut Random, case: &TreeCase) -> usize {
         model.text.len()
     } else {
         let mut model = Model::new(HOUSE, LARGEST_ROOM);
-        let _ = serialize_house(&mut model, tree.as_ref(), &case.text);
+        let threshold = house_thresholds(case)[case.text.len() % 3];
+        let _ = serialize_house_at(&mut model, tree.as_ref(), &case.text, threshold);
         model.text.len()
     };
     len.saturating_sub(choice % 2)

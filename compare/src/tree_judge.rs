@@ -9,7 +9,8 @@ use crate::script::{put_record, refused};
 use crate::serializer::{Serializer, SerializerStyle};
 use crate::tree_case::{put_case, TreeCase};
 use crate::tree_model::{
-    held, index_path, opened, parse_tree, read_node, serialize_house, serialize_tree, Node, Parsed,
+    held, index_path, opened, parse_tree, read_node, serialize_house_at, serialize_tree, Node,
+    Parsed,
 };
 use crate::writer_judge::{agree, call_original, put_line, wide};
 use crate::writer_model::Model;
@@ -21,6 +22,14 @@ pub const HOUSE: Style = Style {
     line_break: "\n",
     indentation: "  ",
 };
+
+/// The house style's own threshold.
+const HOUSE_THRESHOLD: u64 = 72;
+
+/// Where a case has its tree written in house style: at 0, at the case's threshold, and at the style's own.
+pub fn house_thresholds(case: &TreeCase) -> [u64; 3] {
+    [0, case.threshold, HOUSE_THRESHOLD]
+}
 
 #[derive(Default)]
 pub struct TreeJudge {
@@ -36,7 +45,8 @@ impl TreeJudge {
     /// The lines after `CASE` that replay has to print.
     pub fn expected(&mut self, case: &TreeCase) -> Vec<u8> {
         self.cases += 1;
-        self.calls += case.calls + 1 + case.writings + 1 + case.paths.len();
+        self.calls +=
+            case.calls + 1 + case.writings + house_thresholds(case).len() + case.paths.len();
         let mut lines = Vec::new();
         let mut table = case.fresh_table();
         self.parse(case, &mut table, &mut lines);
@@ -44,7 +54,15 @@ impl TreeJudge {
         let tree = held(&table[case.first..], case.text.len());
         let original = tree.as_ref().and_then(|tree| tree_node(tree, &case.text));
         self.write(case, tree.as_ref(), original.as_ref(), &mut lines);
-        self.write_house(case, tree.as_ref(), original.as_ref(), &mut lines);
+        for threshold in house_thresholds(case) {
+            self.write_house(
+                case,
+                tree.as_ref(),
+                original.as_ref(),
+                threshold,
+                &mut lines,
+            );
+        }
         for path in &case.paths {
             let answer = index_path(tree.as_ref(), path);
             self.follow_path(case, path, answer, original.as_ref());
@@ -147,18 +165,19 @@ impl TreeJudge {
         case: &TreeCase,
         tree: Option<&Node>,
         original: Option<&TreeNode>,
+        threshold: u64,
         lines: &mut Vec<u8>,
     ) {
         let mut model = Model::new(HOUSE, case.room);
-        let answer = serialize_house(&mut model, tree, &case.text);
+        let answer = serialize_house_at(&mut model, tree, &case.text, threshold);
         put_writing(lines, answer, &model);
         if let (Ok(_), Some(tree)) = (answer, original) {
             self.shared += 1;
             let mut text = String::new();
             let mut serializer = Serializer::new(original_style(HOUSE), &mut text);
-            crate::serialize_tree(&mut serializer, tree, 0);
+            crate::serialize_tree(&mut serializer, tree, wide(threshold));
             serializer.finish(true);
-            self.hold(case, "serialize_house", text.as_bytes() == model.text);
+            self.hold(case, "house style", text.as_bytes() == model.text);
         }
     }
 

@@ -184,9 +184,14 @@ pub fn serialize_tree(
     write_tree(model, tree, text, threshold, None)
 }
 
-/// A whole text in house style: threshold 0, and a final line break.
-pub fn serialize_house(model: &mut Model, tree: Option<&Node>, text: &[u8]) -> Result<usize, u8> {
-    write_tree(model, tree, text, 0, Some(Call::Finish(true)))
+/// A whole text in house style at a threshold, with a final line break.
+pub fn serialize_house_at(
+    model: &mut Model,
+    tree: Option<&Node>,
+    text: &[u8],
+    threshold: u64,
+) -> Result<usize, u8> {
+    write_tree(model, tree, text, threshold, Some(Call::Finish(true)))
 }
 
 /// 15, 17, 19, 21, 22, "each over the whole node before the next". A refusal leaves the model as it was.

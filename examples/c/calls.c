@@ -88,6 +88,19 @@ static void write_table(const uint32_t *table) {
     print_bytes(buf, BUFFER);
 }
 
+/* Reads a profile of more than one line, and prints it in house style. */
+static void write_house(void) {
+    static const char text[] = "(stage (x -57.5 57.5) (y -40.0 40.0) (z 0.0 25.0) (speed 12.5 12.5 0.8) (name \"bench 3\"))";
+    uint64_t values[2] = {UNTOUCHED, UNTOUCHED};
+    uint32_t table[4 * sizeof(text)];
+    uint8_t buf[2 * sizeof(text)];
+    print_result("a profile", sise_parse_tree(BYTES(text), table, 4 * sizeof(text), values), values);
+    uint32_t number = sise_serialize_tree(BYTES("\n"), BYTES("  "), buf, sizeof(buf), BYTES(text), table, 4 * sizeof(text),
+                                          SISE_HOUSE_THRESHOLD, true, values);
+    print_result("in house style", number, values);
+    fwrite(buf, 1, (size_t)values[0], stdout);
+}
+
 /* Reads the profile's items, makes them calls at the threshold 9 with a finish behind them, and writes them again. */
 static void write_items(void) {
     uint64_t values[2] = {UNTOUCHED, UNTOUCHED};
@@ -138,6 +151,7 @@ int main(void) {
     read_table(table);
     find_node(table);
     write_table(table);
+    write_house();
     write_items();
     read_longest();
     return 0;

@@ -1,6 +1,6 @@
 /*
  * Shows a profile: show FILE [CHILD...]
- * It checks the file, prints the node at the end of the path of children, counted from 0, and the whole in house style.
+ * It checks the file, prints the node at the end of the path of children, counted from 0, and the whole with every line broken.
  */
 #include <errno.h>
 #include <stdio.h>
@@ -95,12 +95,14 @@ static size_t find(const struct profile *profile, const uint64_t *path, size_t p
     return (size_t)values[0];
 }
 
-/* Prints the subtree of a node: in house style, or on one line. */
-static void print(const struct profile *profile, size_t node, bool house) {
+/* Every line is at least that long: each is broken. */
+static const uint64_t EVERY_LINE = 0;
+
+/* Prints the subtree of a node, its lines broken at a threshold. */
+static void print(const struct profile *profile, size_t node, uint64_t threshold) {
     const uint8_t *line_break = (const uint8_t *)"\n", *indentation = (const uint8_t *)"  ";
     const uint32_t *table = profile->table + 4 * node;
     size_t table_len = profile->table_len - 4 * node;
-    uint64_t threshold = house ? 0 : SISE_ONE_LINE;
     uint64_t values[2];
     uint32_t number = sise_measure_tree(line_break, 1, indentation, 2, profile->text, profile->text_len, table, table_len,
                                         threshold, true, values);
@@ -131,8 +133,8 @@ int main(int argc, char **argv) {
     struct profile profile;
     read_text(argv[1], &profile);
     printf("%s: %llu nodes\n", argv[1], (unsigned long long)parse(argv[1], &profile));
-    print(&profile, find(&profile, path, path_len), false);
-    print(&profile, 0, true);
+    print(&profile, find(&profile, path, path_len), SISE_ONE_LINE);
+    print(&profile, 0, EVERY_LINE);
     free(profile.table);
     free(profile.text);
     free(path);

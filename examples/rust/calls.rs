@@ -80,6 +80,25 @@ fn write_table(table: &[u32]) {
     print_bytes(&buf);
 }
 
+/// Reads a profile of more than one line, and prints it in house style.
+fn write_house() {
+    let text = br#"(stage (x -57.5 57.5) (y -40.0 40.0) (z 0.0 25.0) (speed 12.5 12.5 0.8) (name "bench 3"))"#;
+    let mut table = vec![0; 4 * text.len()];
+    let mut buf = vec![0; 2 * text.len()];
+    print_result("a profile", sise::parse_tree(text, &mut table));
+    let written = sise::serialize_tree(
+        Style::HOUSE,
+        &mut buf,
+        text,
+        &table,
+        sise::HOUSE_THRESHOLD,
+        true,
+    );
+    buf.truncate(*written.as_ref().unwrap_or(&0));
+    print_result("in house style", written);
+    print!("{}", String::from_utf8_lossy(&buf));
+}
+
 /// Reads the profile's items, makes them calls at the threshold 9 with a finish behind them, and writes them again.
 fn write_items() {
     let mut words = [u64::from(UNTOUCHED); 4 * ITEMS + 4];
@@ -113,6 +132,7 @@ fn main() {
     let node = sise::index_path(&table, PROFILE, &[1, 0]);
     print_result("sise_index_path", node);
     write_table(&table);
+    write_house();
     write_items();
     read_longest();
 }

@@ -1,5 +1,5 @@
 //! Shows a profile: show FILE [CHILD...]
-//! It checks the file, prints the node at the end of the path of children, counted from 0, and the whole in house style.
+//! It checks the file, prints the node at the end of the path of children, counted from 0, and the whole with every line broken.
 
 // The program uses some of the calls.
 #[allow(dead_code)]
@@ -9,8 +9,8 @@ use sise::{Refusal, Style};
 use std::error::Error;
 use std::process::ExitCode;
 
-/// House style breaks every line; a line is never that long.
-const HOUSE: u64 = 0;
+/// Every line is at least that long, and is broken; no line is ever that long.
+const EVERY_LINE: u64 = 0;
 const ONE_LINE: u64 = u64::MAX;
 
 /// A text, and the table of its nodes.
@@ -39,10 +39,7 @@ impl Profile {
 
     /// A subtree as a text.
     fn written(&self, subtree: &[u32], break_line_at: u64) -> Result<String, Refusal> {
-        let style = Style {
-            line_break: b"\n",
-            indentation: b"  ",
-        };
+        let style = Style::HOUSE;
         let size = sise::measure_tree(style, &self.text, subtree, break_line_at, true)?;
         let mut buf = vec![0; size];
         sise::serialize_tree(style, &mut buf, &self.text, subtree, break_line_at, true)?;
@@ -58,7 +55,7 @@ fn show(name: &str, path: &[u64]) -> Result<(), Box<dyn Error>> {
         .at(path)
         .map_err(|refusal| format!("path: {refusal}"))?;
     print!("{}", profile.written(node, ONE_LINE)?);
-    print!("{}", profile.written(&profile.table, HOUSE)?);
+    print!("{}", profile.written(&profile.table, EVERY_LINE)?);
     Ok(())
 }
 

@@ -104,6 +104,17 @@ pub struct Style<'a> {
     pub indentation: &'a [u8],
 }
 
+/// The threshold of the house style.
+pub const HOUSE_THRESHOLD: u64 = 72;
+
+impl Style<'static> {
+    /// The two strings of the house style, which has a final break too.
+    pub const HOUSE: Style<'static> = Style {
+        line_break: b"\n",
+        indentation: b"  ",
+    };
+}
+
 /// Whether the bytes are an atom.
 pub fn check_atom(atom: &[u8]) -> Result<(), Refusal> {
     // Here and below, the slices live as long as the call, which keeps nothing, and what it writes is borrowed by nobody else.

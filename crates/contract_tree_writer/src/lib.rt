@@ -10,8 +10,9 @@ ghost use lib.ListN.{length};
 ghost use Rattle.sise_serializer.specs.Serializer.{style};
 ghost use Rattle.sise_tree.specs.Answers.{numberOf};
 ghost use Rattle.sise_tree_writer.specs.Answers.{putAs};
-ghost use Rattle.sise_tree_writer.specs.SerializeTree.{houseTree, serializeTree, DoesWrite, DoesMeasure};
+ghost use Rattle.sise_tree_writer.specs.SerializeTree.{serializeTree, DoesWrite, DoesMeasure};
 ghost use Rattle.sise_tree_writer.specs.Writing.{writeText};
+ghost use Rattle.sise_tree_writer.specs.House.{houseAt, house};
 
 // ---- serialize.rt
 
@@ -95,9 +96,21 @@ pub fn measure_text(
 
 // ---- house.rt
 
+// Writes a whole text in house style at a threshold.
+pub fn serialize_house_at(
+    buf: &mut [u8],
+    text: &[u8],
+    table: &[u32],
+    break_line_at: u64,
+) -> TreeWrote
+    ensures { λ r. ⌜ DoesWrite (houseAt «break_line_at» (now (buf .entry)) (now (text .entry)) (now (table .entry))) r (now (buf .exit)) ⌝ }
+{
+    sise_tree_writer::serialize_house_at(buf, text, table, break_line_at)
+}
+
 // Writes a whole text in house style.
 pub fn serialize_house(buf: &mut [u8], text: &[u8], table: &[u32]) -> TreeWrote
-    ensures { λ r. ⌜ DoesWrite (houseTree (now (buf .entry)) (now (text .entry)) (now (table .entry))) r (now (buf .exit)) ⌝ }
+    ensures { λ r. ⌜ DoesWrite (house (now (buf .entry)) (now (text .entry)) (now (table .entry))) r (now (buf .exit)) ⌝ }
 {
     sise_tree_writer::serialize_house(buf, text, table)
 }

@@ -9,6 +9,7 @@ use sise_serializer::Serializer;
 use sise_tree::index_path;
 use sise_tree::parse_tree;
 use sise_tree_writer::serialize_house;
+use sise_tree_writer::serialize_house_at;
 use sise_tree_writer::serialize_tree;
 
 // The table's words, four a line.
@@ -30,7 +31,7 @@ fn put_paths(out: &mut Block, at: usize, text: &[u8], table: &[u32]) -> usize {
     put_indexed(out, at, b"path 0 0", index_path(table, text, &[0, 0]))
 }
 
-// The tree on one line, and in house style.
+// The tree on one line, in house style at 0, and in house style.
 fn put_again(out: &mut Block, at: usize, text: &[u8], table: &[u32]) -> usize {
     let mut buf = [0u8; 64];
     let largest = 18446744073709551615;
@@ -44,6 +45,8 @@ fn put_again(out: &mut Block, at: usize, text: &[u8], table: &[u32]) -> usize {
         largest,
     ).serializer;
     let at = put_text(out, at, &buf, line.position);
+    let broken = serialize_house_at(&mut buf, text, table, 0).serializer;
+    let at = put_text(out, at, &buf, broken.position);
     let house = serialize_house(&mut buf, text, table).serializer;
     put_text(out, at, &buf, house.position)
 }

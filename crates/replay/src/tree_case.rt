@@ -31,6 +31,7 @@ use sise_tree::parse_tree;
 use sise_tree_writer::PutTree;
 use sise_tree_writer::TreeWrote;
 use sise_tree_writer::serialize_house;
+use sise_tree_writer::serialize_house_at;
 use sise_tree_writer::serialize_tree;
 
 // The table that a case lends a part of.
@@ -187,7 +188,29 @@ fn put_trees(
     at
 }
 
-fn put_house(out: &mut Block, at: usize, buf: &mut [u8], text: &[u8], tree: &[u32]) -> usize {
+fn put_house_at(
+    out: &mut Block,
+    at: usize,
+    buf: &mut [u8],
+    text: &[u8],
+    tree: &[u32],
+    break_line_at: u64,
+) -> usize {
+    let wrote = serialize_house_at(buf, text, tree, break_line_at);
+    put_wrote(out, at, buf, wrote)
+}
+
+// Writes the tree in house style at 0, at the case's threshold, and at its own.
+fn put_houses(
+    out: &mut Block,
+    at: usize,
+    buf: &mut [u8],
+    text: &[u8],
+    tree: &[u32],
+    calls: TreeCalls,
+) -> usize {
+    let at = put_house_at(out, at, buf, text, tree, 0);
+    let at = put_house_at(out, at, buf, text, tree, meant(calls.threshold));
     let wrote = serialize_house(buf, text, tree);
     put_wrote(out, at, buf, wrote)
 }
@@ -219,7 +242,7 @@ fn put_writings(
         writings,
     );
     let mut house = memory();
-    put_house(out, at, &mut house[..room], text, tree)
+    put_houses(out, at, &mut house[..room], text, tree, calls)
 }
 
 fn put_indexed(out: &mut Block, at: usize, answer: Indexed) -> usize {

@@ -18,3 +18,4 @@ pub mod TreeRooms
 pub mod OnlyRoom
 pub mod Lossless
 pub mod TextLimit
+pub mod HouseLaws

@@ -1,4 +1,4 @@
--- What serialize_tree answers and writes (document 01, "Trees" and "Refusals"), and the house style.
+-- What serialize_tree answers and writes (document 01, "Trees" and "Refusals").
 -- Assumes nothing.
 use Prim.Native.Nat.{ℕ, _+_}
 use mathlib.Core.Path.{_≡_}
@@ -10,11 +10,11 @@ use lib.ListN.{length, drop}
 use Rattle.sise_util.specs.Atom.{isAtomPrefix}
 use Rattle.sise_parser.specs.Reader.{partOf}
 use Rattle.sise_serializer.specs.Serializer as writer
-use Rattle.sise_serializer.specs.Serializer.{Style, style, isSound, deepest, freshSerializer}
+use Rattle.sise_serializer.specs.Serializer.{Style, isSound, deepest}
 use Rattle.sise_serializer.specs.declared.serializer.Phase.{Phase}
 use Rattle.sise_serializer.specs.declared.serializer.Phase.the-variants.{Beginning, Writing, Finished, Done}
 use Rattle.sise_serializer.specs.declared.serializer.Serializer.{Serializer}
-use Rattle.sise_serializer.specs.Calls.{largest, isAccepted, Call, putAtomCall, beginListCall, endListCall, finishCall, step, run}
+use Rattle.sise_serializer.specs.Calls.{largest, isAccepted, Call, putAtomCall, beginListCall, endListCall, step, run}
 use Rattle.sise_tree.specs.Tree.{Node, atom, list, Nodes, empty, _then_, depth}
 use Rattle.sise_tree.specs.Decision.{decide}
 use Rattle.sise_tree.specs.ParseTree.{longest}
@@ -102,20 +102,6 @@ writeTree s buffer w text words calls =
 
 unfoldable pub serializeTree : Style → List ℕ → Serializer → List ℕ → List ℕ → ℕ → Writes
 serializeTree s buffer w text words t = writeTree s buffer w text words (treeCalls text t)
-
--- "house style, LF, two spaces, threshold 0, final break"
-unfoldable pub houseStyle : Style
-houseStyle = style (10 ∷ []) (32 ∷ 32 ∷ [])
-
-abbrev pub houseThreshold : ℕ
-houseThreshold = 0
-
--- a whole text in house style: the tree, and finish with a line break, as one call
-unfoldable pub houseCalls : List ℕ → Node → List Call
-houseCalls text n = treeCalls text houseThreshold n ++ finishCall true ∷ []
-
-unfoldable pub houseTree : List ℕ → List ℕ → List ℕ → Writes
-houseTree buffer text words = writeTree houseStyle buffer freshSerializer text words (houseCalls text)
 
 -- what a call promises, that ended with the result r and the buffer `now`: it does as d says
 pub record DoesWrite (d : Writes) (r : TreeWrote) (now : List ℕ) : Type 0 where

@@ -5,7 +5,9 @@ mod serialize;
 mod whole;
 mod write;
 
+pub use house::HOUSE_THRESHOLD;
 pub use house::serialize_house;
+pub use house::serialize_house_at;
 pub use serialize::PutTree;
 pub use serialize::TreeWrote;
 pub use serialize::serialize_tree;

@@ -17,6 +17,6 @@ put-writings-spec =
     (λ c κs. search needs)  -- put-trees-requires
     (λ c κs. search needs)  -- memory-requires-2
     (λ c. search needs)  -- array-borrow-prefix-house
-    (λ c. sym (length-take-le _ _ (omega arith)))  -- slice-aggregate-put-house
-    (λ c κs. search needs)  -- put-house-requires
+    (λ c. sym (length-take-le _ _ (omega arith)))  -- slice-aggregate-put-houses
+    (λ c κs. search needs)  -- put-houses-requires
     (λ c. search needs))  -- returns
