@@ -1,6 +1,6 @@
 //! The cases for the reader.
 
-use crate::damage::{borders, broken_character, character, damage, insert};
+use crate::damage::{borders, broken_character, character, damage, insert, LATER};
 use crate::examples;
 use crate::model::Model;
 use crate::options::Options;
@@ -35,6 +35,7 @@ pub fn all(options: &Options) -> impl Iterator<Item = Case> {
     examples::cases()
         .chain(exhaustive(longest))
         .chain(borders().map(to_the_end))
+        .chain(pairs().map(to_the_end))
         .chain(random)
         .take(options.cases.unwrap_or(default))
 }
@@ -49,6 +50,22 @@ pub fn exhaustive(longest: u32) -> impl Iterator<Item = Case> {
                 number /= SYMBOLS.len();
             }
             to_the_end(text)
+        })
+    })
+}
+
+/// Every first byte with every second, and behind them both sides of the borders of a third and a fourth: a text for a first byte and 16 second ones.
+/// Each character stands on a line of its own, in more lists than its bytes can close.
+fn pairs() -> impl Iterator<Item = Vec<u8>> {
+    (0..=0xFF).flat_map(|first: u8| {
+        (0..16).map(move |high: u8| {
+            let mut text = Vec::new();
+            for low in 0..16 {
+                for (third, fourth) in LATER.iter().flat_map(|&b| LATER.map(|c| (b, c))) {
+                    text.extend([b'\n', b'(', b'(', first, 16 * high + low, third, fourth]);
+                }
+            }
+            text
         })
     })
 }
