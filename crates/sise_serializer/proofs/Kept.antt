@@ -21,7 +21,7 @@ use Rattle.sise_serializer.proofs.Sound.{Sound, sound, checked-sound}
 use Rattle.sise_serializer.proofs.Verdicts.{endOf, Puts, atomAlone, atomInside, listFirst, listInside, listClosed, textEnded, Verdict, refuses, puts, verdict}
 
 -- an atom has a byte
-atom-bytes : (a : List ℕ) → isAtom a ≡ true → 1 ≤ length a
+pub atom-bytes : (a : List ℕ) → isAtom a ≡ true → 1 ≤ length a
 unfolding isAtom
 atom-bytes [] h = absurd (false≢true h)
 atom-bytes (b ∷ a) h = omega arith

@@ -54,3 +54,9 @@ pub record Runs (s : Style) (words atoms b before : List ℕ) (r : Ran) (bytes n
   pub calls : r .calls ≡ length (callsOf words atoms (length before))
   pub buffer : bytes ≡ writing s b (callsOf words atoms (length before)) .buffer
   pub answers : now ≡ pasted before 0 (map answerWord (writing s b (callsOf words atoms (length before)) .answers))
+
+-- the same of a call that hands back of the record only its position n, which is how many bytes of the buffer are written
+pub record WritesCalls (s : Style) (words atoms b before : List ℕ) (n : ℕ) (bytes now : List ℕ) : Type 0 where
+  pub size : n ≡ writing s b (callsOf words atoms (length before)) .last .position
+  pub buffer : bytes ≡ writing s b (callsOf words atoms (length before)) .buffer
+  pub answers : now ≡ pasted before 0 (map answerWord (writing s b (callsOf words atoms (length before)) .answers))
