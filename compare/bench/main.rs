@@ -292,7 +292,10 @@ fn trees(size: usize) {
     );
     let profile = typical(size);
     let flat = list_of("x 12 -0.5 ", size);
-    let nested = |lists| list_of(&format!("{}{} ", "(".repeat(lists), ")".repeat(lists)), size);
+    let nested = |lists| {
+        let list = format!("{}{} ", "(".repeat(lists), ")".repeat(lists));
+        list_of(&list, size)
+    };
     let (deep, deeper) = (nested(150), nested(5_000));
     tree_read("read, typical profile", &profile);
     tree_read("read, flat", &flat);
@@ -303,7 +306,7 @@ fn trees(size: usize) {
     }
     tree_written("written, flat, at 80", &flat, 80);
     tree_written("written, deep, one line", &deep, usize::MAX);
-    tree_written("written, 5,000 deep, one line", &deeper, usize::MAX);
+    tree_written("written, 5,000 deep", &deeper, usize::MAX);
     tree_indexed("path, typical profile", &profile, &[1, 4, 2, 1]);
     tree_indexed("path, 10 kB", &typical(10_000), &[1, 4, 2, 1]);
 }
