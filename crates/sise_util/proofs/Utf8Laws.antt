@@ -1,5 +1,5 @@
 -- The definition of a character is RFC 3629's: it is well formed exactly if it matches a row of section 4; its code point is a scalar value, and
--- each scalar value has exactly one byte string, section 3's.
+-- each scalar value has exactly one byte string, section 3's. Where none is well formed, the bytes counted are the longest start of one, at least one byte.
 -- Assumes nothing.
 use mathlib.Core.Path.{_≡_, refl, sym, ap, ap₂, _∙_, subst}
 use mathlib.Core.Bool.{Bool, true, false, _&&_, true≢false}
@@ -233,7 +233,7 @@ ill-formed l = (λ w k u. ill≢well (sym (w .1) ∙ ap character (sym (take-app
 
 -- what is ill formed: how many bytes stand for the broken character
 
--- octets that are missing or out of their ranges: the first m of n octets are there before the ranges rs
+-- bytes that fit the ranges rs only in part, behind m octets: those that fit, and octets that would be due in place of what is left
 record Broken (rs : List Range) (l : List ℕ) (m k : ℕ) : Type 0 where
   octets : List ℕ
   left : List ℕ
