@@ -100,15 +100,17 @@ pub enum Kind {
     Bytes,
     Characters,
     Broken,
+    Faults,
 }
 
-pub const KINDS: [Kind; 6] = [
+pub const KINDS: [Kind; 7] = [
     Kind::Good,
     Kind::Damaged,
     Kind::Symbols,
     Kind::Bytes,
     Kind::Characters,
     Kind::Broken,
+    Kind::Faults,
 ];
 
 pub struct Maker {
@@ -158,6 +160,7 @@ impl Maker {
                 let bytes = broken_character(random);
                 insert(random, text, &bytes);
             }),
+            Kind::Faults => faults(random, size),
         }
     }
 
@@ -216,6 +219,20 @@ fn symbols(random: &mut Random, size: usize) -> Vec<u8> {
         if random.percent(50) {
             text.push(random.pick(ATOM_CHARACTERS));
         }
+    }
+    text
+}
+
+/// Characters that no token has, most of them broken, one behind the other.
+fn faults(random: &mut Random, size: usize) -> Vec<u8> {
+    let mut text = Vec::new();
+    while text.len() < size {
+        let bytes = if random.percent(80) {
+            broken_character(random)
+        } else {
+            character(random)
+        };
+        text.extend_from_slice(&bytes);
     }
     text
 }

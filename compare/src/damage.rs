@@ -64,7 +64,7 @@ pub fn broken_character(random: &mut Random) -> Vec<u8> {
     match random.below(7) {
         0 => {
             let mut cut = character(random);
-            cut.pop();
+            cut.truncate(1 + random.below(cut.len() - 1));
             cut
         }
         1 => vec![random.pick(&[0xC0, 0xC1]), tail],

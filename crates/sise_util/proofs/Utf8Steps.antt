@@ -43,8 +43,9 @@ hit {text} {at} {o} s lo hi p from to c n rs =
     (λ t. ap (follow c n (range lo hi ∷ rs)) (stands-next s (ltb-true at (length text) t)) ∙ rw (within-yes lo hi o from to, follow))
     (λ t. absurd (let z : o ≡ 0 = s .stands ∙ List·getD-eq-default text 0 (ltb-false at (length text) t) in omega arith))
 
--- out of the range: the character is ill formed
-pub miss : {text : List ℕ} {at o : ℕ} → OctetAt text at o → (lo hi : ℕ) → (lo ≤ o → o ≤ hi → ⊥) → (c n : ℕ) (rs : List Range) → Ill ≡ follow c n (range lo hi ∷ rs) (drop at text)
+-- out of the range: the octets before it are the start
+pub miss : {text : List ℕ} {at o : ℕ} → OctetAt text at o → (lo hi : ℕ) → (lo ≤ o → o ≤ hi → ⊥) → (c n : ℕ) (rs : List Range)
+    → Ill (n - suc (length rs)) ≡ follow c n (range lo hi ∷ rs) (drop at text)
 unfolding follow
 miss {text} {at} {o} s lo hi d c n rs =
     split (ltb at (length text))
@@ -82,7 +83,7 @@ nth-row [] k b l o i = absurd (omega arith)
 nth-row (f ∷ fs) zero b l o i = sym (rw (within-yes (f .first .lo) (f .first .hi) b (i .0) (i .1), byRows))
 nth-row (f ∷ fs) (suc k) b l o i = nth-row fs k b l (o .1) i ∙ sym (rw (within-no (f .first .lo) (f .first .hi) b (o .0), byRows))
 
-no-row : (fs : List Form) (b : ℕ) (l : List ℕ) → Outside b fs → Ill ≡ byRows fs (b ∷ l)
+no-row : (fs : List Form) (b : ℕ) (l : List ℕ) → Outside b fs → Ill 1 ≡ byRows fs (b ∷ l)
 unfolding byRows
 no-row [] b l o = refl
 no-row (f ∷ fs) b l o = no-row fs b l (o .1) ∙ sym (rw (within-no (f .first .lo) (f .first .hi) b (o .0), byRows))
@@ -93,7 +94,7 @@ module _ {l : List ℕ} {lead second : ℕ} (s : FirstTwo l lead second) where
   unfolding character
   row-at k o i = nth-row forms k lead (drop 1 l) o i ∙ ap (byRows forms) (sym (stands-next (s .first) (s .some)))
 
-  pub no-row-at : Outside lead forms → Ill ≡ character l
+  pub no-row-at : Outside lead forms → Ill 1 ≡ character l
   unfolding character
   no-row-at o = no-row forms lead (drop 1 l) o ∙ ap (byRows forms) (sym (stands-next (s .first) (s .some)))
 
@@ -106,12 +107,13 @@ module _ {l : List ℕ} {lead second : ℕ} (s : FirstTwo l lead second) where
       ∙ row-at k o i
 
   -- it is not
-  pub stops : (k : ℕ) {r : Range} {rs : List Range} → row k .rest ≡ r ∷ rs → Outside lead (take k forms) → Begins lead (row k) → (r .lo ≤ second → second ≤ r .hi → ⊥) → Ill ≡ character l
+  pub stops : (k : ℕ) {r : Range} {rs : List Range} → row k .rest ≡ r ∷ rs → Outside lead (take k forms) → Begins lead (row k) → (r .lo ≤ second → second ≤ r .hi → ⊥) → Ill 1 ≡ character l
   stops k {r} {rs} e o i d =
-      miss (s .next) (r .lo) (r .hi) d (lead - row k .mark) (1 + length (row k .rest)) rs
+      ap Ill (let z = ap length e in omega arith)
+      ∙ miss (s .next) (r .lo) (r .hi) d (lead - row k .mark) (1 + length (row k .rest)) rs
       ∙ sym (ap (λ (m : List Range). follow (lead - row k .mark) (1 + length (row k .rest)) m (drop 1 l)) e)
       ∙ row-at k o i
 
-pub none-at : (text : List ℕ) (at : ℕ) → length text ≤ at → Ill ≡ character (drop at text)
+pub none-at : (text : List ℕ) (at : ℕ) → length text ≤ at → Ill 0 ≡ character (drop at text)
 unfolding character byRows forms
 none-at text at h = ap (byRows forms) (sym (drop-of-length-le text h))

@@ -7,10 +7,11 @@ ghost use Rattle.sise_util.specs.Parts.{OctetAt, FirstTwo};
 ghost use Rattle.sise_util.specs.Utf8.{tail, follow, character};
 ghost use Rattle.sise_util.specs.declared.utf8.Character.the-variants.{Well};
 
-// The character that some bytes begin with: its code point and its number of bytes, or none that is well formed.
+// The character that some bytes begin with: its code point and its number of bytes. Or none that is well formed: then the bytes of the longest start
+// of one, which stand for a broken character: at least one, and 0 only where no byte is.
 pub enum Character {
     Well { code: u32, len: usize },
-    Ill,
+    Ill { len: usize },
 }
 
 // The free bits of an octet: what is left of it without the bits that mark it.
@@ -52,7 +53,7 @@ fn three(lead: u8, second: u8, rest: &[u8]) -> Character
             let code = two * 64 + free_bits(third, 0x80);
             Character::Well { code, len: 3 }
         }
-        _ => Character::Ill,
+        _ => Character::Ill { len: 2 },
     }
 }
 
@@ -71,9 +72,9 @@ fn four(lead: u8, second: u8, rest: &[u8]) -> Character
                 let code = three * 64 + free_bits(fourth, 0x80);
                 Character::Well { code, len: 4 }
             }
-            _ => Character::Ill,
+            _ => Character::Ill { len: 3 },
         },
-        _ => Character::Ill,
+        _ => Character::Ill { len: 2 },
     }
 }
 
@@ -91,44 +92,44 @@ fn utf8_char(lead: u8, second: u8, rest: &[u8]) -> Character
         // UTF8-2 = %xC2-DF UTF8-tail
         0xC2..=0xDF => match second {
             0x80..=0xBF => two(lead, second),
-            _ => Character::Ill,
+            _ => Character::Ill { len: 1 },
         },
         // UTF8-3 = %xE0 %xA0-BF UTF8-tail /
         0xE0 => match second {
             0xA0..=0xBF => three(lead, second, rest),
-            _ => Character::Ill,
+            _ => Character::Ill { len: 1 },
         },
         //          %xE1-EC 2( UTF8-tail ) /
         0xE1..=0xEC => match second {
             0x80..=0xBF => three(lead, second, rest),
-            _ => Character::Ill,
+            _ => Character::Ill { len: 1 },
         },
         //          %xED %x80-9F UTF8-tail /
         0xED => match second {
             0x80..=0x9F => three(lead, second, rest),
-            _ => Character::Ill,
+            _ => Character::Ill { len: 1 },
         },
         //          %xEE-EF 2( UTF8-tail )
         0xEE..=0xEF => match second {
             0x80..=0xBF => three(lead, second, rest),
-            _ => Character::Ill,
+            _ => Character::Ill { len: 1 },
         },
         // UTF8-4 = %xF0 %x90-BF 2( UTF8-tail ) /
         0xF0 => match second {
             0x90..=0xBF => four(lead, second, rest),
-            _ => Character::Ill,
+            _ => Character::Ill { len: 1 },
         },
         //          %xF1-F3 3( UTF8-tail ) /
         0xF1..=0xF3 => match second {
             0x80..=0xBF => four(lead, second, rest),
-            _ => Character::Ill,
+            _ => Character::Ill { len: 1 },
         },
         //          %xF4 %x80-8F 2( UTF8-tail )
         0xF4 => match second {
             0x80..=0x8F => four(lead, second, rest),
-            _ => Character::Ill,
+            _ => Character::Ill { len: 1 },
         },
-        _ => Character::Ill,
+        _ => Character::Ill { len: 1 },
     }
 }
 
@@ -137,7 +138,7 @@ pub fn character_at(text: &[u8], at: usize) -> Character
     ensures { λ r. ⌜ r ≡ character (drop at (now (text .entry))) ⌝ }
 {
     if text.len() <= at {
-        return Character::Ill;
+        return Character::Ill { len: 0 };
     }
     let rest = &text[at..];
     utf8_char(octet_at(rest, 0), octet_at(rest, 1), rest)

@@ -15,7 +15,7 @@ use Rattle.sise_util.proofs.utf8.four.Statement.{statement}
 use Rattle.sise_util.proofs.utf8.four.Tie as tie
 
 -- a third octet that is a UTF8-tail, and a fourth that is none
-fourth : {l : List ℕ} {third o : ℕ} (c : ℕ) → OctetAt l 2 third → 0x80 ≤ third → third ≤ 0xBF → OctetAt l 3 o → (0x80 ≤ o → o ≤ 0xBF → ⊥) → Ill ≡ follow c 4 (tail ∷ tail ∷ []) (drop 2 l)
+fourth : {l : List ℕ} {third o : ℕ} (c : ℕ) → OctetAt l 2 third → 0x80 ≤ third → third ≤ 0xBF → OctetAt l 3 o → (0x80 ≤ o → o ≤ 0xBF → ⊥) → Ill 3 ≡ follow c 4 (tail ∷ tail ∷ []) (drop 2 l)
 fourth c s from to s′ d = miss s′ 0x80 0xBF d _ 4 [] ∙ sym (hit s 0x80 0xBF (lit< tt) from to c 4 (tail ∷ []))
 
 pub four-spec : {M : Type 1} → statement M
