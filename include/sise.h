@@ -23,6 +23,10 @@
  * point found there (of 1 to 3, else 0). Of any other refusal both are 0. Where a call has several reasons to refuse, it gives
  * the first in the order that is said of it.
  *
+ * From fault to fault. The place of 1, 2, 3 and 8 is that of a character's first byte. A character that is cut off or broken
+ * is one fault, as in an editor: it has the bytes from there on that are a start of a well-formed character, at least one, and
+ * the next place to look at is the byte behind them. After 0xE2 0x82 that is two bytes on, after 0xC0 one.
+ *
  * Tables. A tree is held in a table of 32-bit words, four a node, a list's children after it in order:
  *     an atom:  1, place of its first byte in the text, number of bytes, 1
  *     a list:   0, number of children, distance in nodes back to its parent, number of nodes in it with itself
@@ -63,7 +67,7 @@ enum sise_refusal {
     SISE_UNEXPECTED_EOF = 5,         /* the text ends where an item is due */
     SISE_UNEXPECTED_RIGHT_PAREN = 6, /* a `)` where no list is open */
     SISE_EXPECTED_EOF = 7,           /* something stands behind the text's one node */
-    SISE_ILL_FORMED_CHR = 8,         /* bytes that are not UTF-8 (RFC 3629) */
+    SISE_ILL_FORMED_CHR = 8,         /* a broken character: bytes that are not UTF-8 (RFC 3629) */
     /* Of what is lent. */
     SISE_TEXT_TOO_LONG = 13, /* the text has more than SISE_LONGEST bytes */
     SISE_TABLE_FULL = 14,    /* the memory has no room for what was read */

@@ -1,6 +1,6 @@
 //! The cases for the reader.
 
-use crate::damage::{borders, broken_character, character, damage, insert};
+use crate::damage::{borders, broken_character, character, damage, insert, LATER};
 use crate::examples;
 use crate::model::Model;
 use crate::options::Options;
@@ -35,6 +35,7 @@ pub fn all(options: &Options) -> impl Iterator<Item = Case> {
     examples::cases()
         .chain(exhaustive(longest))
         .chain(borders().map(to_the_end))
+        .chain(pairs().map(to_the_end))
         .chain(random)
         .take(options.cases.unwrap_or(default))
 }
@@ -49,6 +50,22 @@ pub fn exhaustive(longest: u32) -> impl Iterator<Item = Case> {
                 number /= SYMBOLS.len();
             }
             to_the_end(text)
+        })
+    })
+}
+
+/// Every first byte with every second, and behind them both sides of the borders of a third and a fourth: a text for a first byte and 16 second ones.
+/// Each character stands on a line of its own, in more lists than its bytes can close.
+fn pairs() -> impl Iterator<Item = Vec<u8>> {
+    (0..=0xFF).flat_map(|first: u8| {
+        (0..16).map(move |high: u8| {
+            let mut text = Vec::new();
+            for low in 0..16 {
+                for (third, fourth) in LATER.iter().flat_map(|&b| LATER.map(|c| (b, c))) {
+                    text.extend([b'\n', b'(', b'(', first, 16 * high + low, third, fourth]);
+                }
+            }
+            text
         })
     })
 }
@@ -83,15 +100,17 @@ pub enum Kind {
     Bytes,
     Characters,
     Broken,
+    Faults,
 }
 
-pub const KINDS: [Kind; 6] = [
+pub const KINDS: [Kind; 7] = [
     Kind::Good,
     Kind::Damaged,
     Kind::Symbols,
     Kind::Bytes,
     Kind::Characters,
     Kind::Broken,
+    Kind::Faults,
 ];
 
 pub struct Maker {
@@ -141,6 +160,7 @@ impl Maker {
                 let bytes = broken_character(random);
                 insert(random, text, &bytes);
             }),
+            Kind::Faults => faults(random, size),
         }
     }
 
@@ -199,6 +219,20 @@ fn symbols(random: &mut Random, size: usize) -> Vec<u8> {
         if random.percent(50) {
             text.push(random.pick(ATOM_CHARACTERS));
         }
+    }
+    text
+}
+
+/// Characters that no token has, most of them broken, one behind the other.
+fn faults(random: &mut Random, size: usize) -> Vec<u8> {
+    let mut text = Vec::new();
+    while text.len() < size {
+        let bytes = if random.percent(80) {
+            broken_character(random)
+        } else {
+            character(random)
+        };
+        text.extend_from_slice(&bytes);
     }
     text
 }

@@ -32,17 +32,16 @@ fn check_atom(bytes: &[u8]) -> bool {
     std::str::from_utf8(bytes).map_or(false, crate::check_atom)
 }
 
+/// By the standard library's decoder, which takes a broken character as a maximal subpart.
 fn character(bytes: &[u8], place: usize) -> String {
-    for len in 1..=4 {
-        let Some(part) = bytes.get(place..place + len) else {
-            break;
-        };
-        if let Ok(text) = std::str::from_utf8(part) {
-            let code = text.chars().next().map_or(0, u32::from);
-            return format!("{code}/{len}");
-        }
+    let rest = bytes.get(place..).unwrap_or_default();
+    let Some(chunk) = rest.utf8_chunks().next() else {
+        return String::from("-/0");
+    };
+    match chunk.valid().chars().next() {
+        Some(chr) => format!("{}/{}", u32::from(chr), chr.len_utf8()),
+        None => format!("-/{}", chunk.invalid().len()),
     }
-    String::from("-")
 }
 
 fn case_bytes(line: &[u8]) -> Vec<u8> {

@@ -64,7 +64,7 @@ pub fn broken_character(random: &mut Random) -> Vec<u8> {
     match random.below(7) {
         0 => {
             let mut cut = character(random);
-            cut.pop();
+            cut.truncate(1 + random.below(cut.len() - 1));
             cut
         }
         1 => vec![random.pick(&[0xC0, 0xC1]), tail],
@@ -89,6 +89,9 @@ pub fn insert(random: &mut Random, text: &mut Vec<u8>, bytes: &[u8]) {
     text.splice(at..at, state.iter().chain(bytes).copied());
 }
 
+/// Third and fourth bytes: both sides of the borders of a UTF8-tail.
+pub const LATER: [u8; 4] = [0x7F, 0x80, 0xBF, 0xC0];
+
 /// The bytes on both sides of each border in RFC 3629's ABNF, put together in every way, in each state of the reader.
 pub fn borders() -> impl Iterator<Item = Vec<u8>> {
     const FIRST: [u8; 22] = [
@@ -96,7 +99,6 @@ pub fn borders() -> impl Iterator<Item = Vec<u8>> {
         0xF3, 0xF4, 0xF5, 0xF7, 0xF8, 0xFE, 0xFF,
     ];
     const SECOND: [u8; 8] = [0x7F, 0x80, 0x8F, 0x90, 0x9F, 0xA0, 0xBF, 0xC0];
-    const LATER: [u8; 4] = [0x7F, 0x80, 0xBF, 0xC0];
     const STATES: [&[u8]; 5] = [b"(", b"a", b"\"", b"\"\\", b";"];
     let count = FIRST.len() * SECOND.len() * LATER.len() * LATER.len() * STATES.len();
     (0..count).map(|mut number| {

@@ -1,4 +1,4 @@
-//! Cases that document 01 speaks of, with their answers written by hand from it.
+//! Cases that documents 01 and 02 speak of, with their answers written by hand from them.
 
 use crate::differences::Differences;
 use crate::judge::{lines, Judge};
@@ -92,8 +92,26 @@ const SLIPS: [Example; 12] = [
     ),
 ];
 
+/// From fault to fault (document 02, 2.7): its two texts; in a string and in a comment; two broken characters in a row; a second byte that fits no row.
+const FAULTS: [Example; 6] = [
+    items(b"\xE2\x82(", 2, "! 8 0 0 | 2 0 0\nL 2 | 3 1 1\n"),
+    items(b"\xC0\xAF", 2, "! 8 0 0 | 1 0 0\n! 8 1 0 | 2 0 0\n"),
+    items(
+        b"\"\xF1\x80\x80A",
+        2,
+        "! 8 1 0 | 4 0 0\nA 4 1 | 5 2 0 | A\n",
+    ),
+    items(b";\xE2\x82(", 2, "! 8 1 0 | 3 0 0\nL 3 | 4 1 1\n"),
+    items(
+        b"\xC3\xF0\x90\x80",
+        3,
+        "! 8 0 0 | 1 0 0\n! 8 1 0 | 4 0 0\n! 5 4 0 | 4 0 0\n",
+    ),
+    items(b"\xED\xA0", 2, "! 8 0 0 | 1 0 0\n! 8 1 0 | 2 0 0\n"),
+];
+
 fn all() -> impl Iterator<Item = &'static Example> {
-    ROWS.iter().chain(&WORKED).chain(&SLIPS)
+    ROWS.iter().chain(&WORKED).chain(&SLIPS).chain(&FAULTS)
 }
 
 pub fn cases() -> impl Iterator<Item = Case> {
@@ -126,10 +144,10 @@ pub fn check() -> bool {
         }
     }
     println!(
-        "examples of document 01: {count}, {} that fail",
+        "examples of the documents: {count}, {} that fail",
         differences.count
     );
-    differences.print("the first one, document 01's answers expected:")
+    differences.print("the first one, the documents' answers expected:")
 }
 
 /// Records that are refused with 11, row 11's first; no script can bring them about.

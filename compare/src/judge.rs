@@ -1,7 +1,7 @@
 //! What is expected of a case; on the way, the model is held against the crate.
 
 use crate::cases;
-use crate::differences::Differences;
+use crate::differences::{Described, Differences};
 use crate::examples;
 use crate::model::Model;
 use crate::options::Options;
@@ -16,6 +16,8 @@ pub struct Judge {
     pub calls: usize,
     /// Cases whose text isn't valid UTF-8.
     masked: usize,
+    /// Cases whose faults were counted.
+    counted: usize,
     pub disagreements: Differences,
 }
 
@@ -25,6 +27,7 @@ impl Judge {
         self.cases += 1;
         self.calls += case.calls + usize::from(case.finish);
         let model = Reading::of(case, Model::new(&case.text));
+        self.count_faults(case, &model);
         if let Ok(text) = std::str::from_utf8(&case.text) {
             let original = Reading::of(case, Original::new(text));
             self.hold(case, &original, &model);
@@ -35,6 +38,24 @@ impl Judge {
         let original = masked.unmask(Reading::of(case, Original::new(&masked.text)));
         self.hold(case, &original, &model);
         model
+    }
+
+    /// Where no byte is ASCII, each character is a fault, and a broken one is one: as many as the standard library's decoder has characters, which
+    /// replaces each maximal subpart by one.
+    fn count_faults(&mut self, case: &Case, model: &Reading) {
+        let ascii = case.text.iter().any(u8::is_ascii);
+        let last = model.items.last().map(|(_, record)| record.position);
+        if ascii || last != Some(case.text.len()) {
+            return;
+        }
+        self.counted += 1;
+        let expected = String::from_utf8_lossy(&case.text).chars().count();
+        let faults = model.items.iter().filter_map(|(answer, _)| answer.err());
+        let found = faults.filter(|fault| matches!(fault.number, 1 | 8)).count();
+        if found != expected {
+            self.disagreements
+                .note(|| format!("{found} faults and not {expected}: {}", case.describe()));
+        }
     }
 
     fn hold(&mut self, case: &Case, original: &Reading, model: &Reading) {
@@ -49,6 +70,10 @@ impl Judge {
         let valid = self.cases - self.masked;
         let (masked, count) = (self.masked, self.disagreements.count);
         println!("model against crate: {valid} texts of valid UTF-8 and {masked} others, {count} disagreements");
+        println!(
+            "faults counted as the standard library's decoder replaces them: {} texts",
+            self.counted
+        );
         self.disagreements
             .print("the first one, the crate's answers expected:")
     }

@@ -1,5 +1,5 @@
-//! Document 01's rules for the reader ("Refusals" and "parser.rs: the reader"), over bytes.
-//! Written from the document and RFC 3629 alone, so that the crate is a check of it on valid text.
+//! Document 01's rules for the reader ("Refusals" and "parser.rs: the reader") with request 2.7 of document 02, over bytes.
+//! Written from the documents and RFC 3629 alone, so that the crate is a check of it on valid text.
 
 use crate::reading::{Answer, Item, Phase, Reader, Record, Refusal};
 
@@ -207,10 +207,10 @@ fn unfinished_string(text: &[u8]) -> Stop {
     }
 }
 
-/// Refusal `number` of the character at `place`, or 8 where none stands there.
+/// Refusal `number` of the character at `place`, or 8 where none stands there, which passes the broken one's bytes (document 02, 2.7).
 fn wrong_character(number: u8, text: &[u8], place: usize) -> Stop {
     match character(&text[place..]) {
-        Some((code, len)) => Stop {
+        Ok((code, len)) => Stop {
             refusal: Refusal {
                 number,
                 place,
@@ -218,9 +218,9 @@ fn wrong_character(number: u8, text: &[u8], place: usize) -> Stop {
             },
             position: place + len,
         },
-        None => Stop {
+        Err(len) => Stop {
             refusal: Refusal::at(8, place),
-            position: place + 1,
+            position: place + len,
         },
     }
 }
@@ -233,12 +233,13 @@ fn is_string_character(byte: u8) -> bool {
     matches!(byte, 0x20..=0x7E) && byte != b'"' && byte != b'\\'
 }
 
-/// The code point and length of the character that the bytes begin with, by the ABNF in section 4 of RFC 3629.
-fn character(bytes: &[u8]) -> Option<(u32, usize)> {
-    let first = *bytes.first()?;
+/// The code point and length of the character that the bytes begin with, by the ABNF in section 4 of RFC 3629; or the length of the longest start of
+/// one found there, at least one byte. There is a first byte.
+fn character(bytes: &[u8]) -> Result<(u32, usize), usize> {
+    let first = bytes[0];
     // The length, the first byte's bits of the code point, and the second byte's range; later bytes are 80 to BF.
     let (len, bits, second) = match first {
-        0x00..=0x7F => return Some((u32::from(first), 1)),
+        0x00..=0x7F => return Ok((u32::from(first), 1)),
         0xC2..=0xDF => (2, first & 0x1F, 0x80..=0xBF),
         0xE0 => (3, first & 0x0F, 0xA0..=0xBF),
         0xE1..=0xEC | 0xEE..=0xEF => (3, first & 0x0F, 0x80..=0xBF),
@@ -246,12 +247,16 @@ fn character(bytes: &[u8]) -> Option<(u32, usize)> {
         0xF0 => (4, first & 0x07, 0x90..=0xBF),
         0xF1..=0xF3 => (4, first & 0x07, 0x80..=0xBF),
         0xF4 => (4, first & 0x07, 0x80..=0x8F),
-        _ => return None,
+        _ => return Err(1),
     };
-    let later = bytes.get(1..len)?;
-    let well_formed = second.contains(&later[0]) && later.iter().all(|b| matches!(b, 0x80..=0xBF));
-    let code = later
-        .iter()
-        .fold(u32::from(bits), |code, b| code << 6 | u32::from(b & 0x3F));
-    well_formed.then_some((code, len))
+    let mut code = u32::from(bits);
+    for place in 1..len {
+        match bytes.get(place) {
+            Some(byte @ 0x80..=0xBF) if place > 1 || second.contains(byte) => {
+                code = code << 6 | u32::from(byte & 0x3F);
+            }
+            _ => return Err(place),
+        }
+    }
+    Ok((code, len))
 }

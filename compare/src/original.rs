@@ -78,27 +78,27 @@ fn refusal(error: ParseError) -> Refusal {
     }
 }
 
-/// A text that isn't valid UTF-8, in a form the crate takes: each byte at which no character stands is replaced by 0x01,
-/// a character of one byte that is wrong in every state. Where the crate refuses one of these, 8 is due.
+/// A text that isn't valid UTF-8, in a form the crate takes: each broken character, as the standard library cuts them off (a maximal subpart), is
+/// replaced by a character of as many bytes that is wrong in every state. Where the crate refuses one of these, 8 is due.
 pub struct Masked {
     pub text: String,
-    /// By place: whether the byte was replaced.
+    /// By place: whether a replaced character begins there.
     replaced: Vec<bool>,
 }
+
+/// A character of one, two and three bytes.
+const MASKS: [char; 3] = ['\u{1}', '\u{80}', '\u{800}'];
 
 impl Masked {
     pub fn new(bytes: &[u8]) -> Self {
         let mut text = String::with_capacity(bytes.len());
         let mut replaced = vec![false; bytes.len()];
-        let mut rest = bytes;
-        while !rest.is_empty() {
-            let well = std::str::from_utf8(rest).map_or_else(|e| e.valid_up_to(), str::len);
-            text += &String::from_utf8_lossy(&rest[..well]);
-            if well < rest.len() {
+        for chunk in bytes.utf8_chunks() {
+            text += chunk.valid();
+            if !chunk.invalid().is_empty() {
                 replaced[text.len()] = true;
-                text.push('\u{1}');
+                text.push(MASKS[chunk.invalid().len() - 1]);
             }
-            rest = rest.get(well + 1..).unwrap_or_default();
         }
         Self { text, replaced }
     }

@@ -66,7 +66,7 @@ fn cases() -> Vec<Case> {
     cases.extend(borders().step_by(149).map(to_the_end));
     let mut maker = Maker::new(0, 150);
     for kind in KINDS {
-        cases.extend((0..30).map(|_| maker.case(kind)));
+        cases.extend((0..27).map(|_| maker.case(kind)));
     }
     cases
 }

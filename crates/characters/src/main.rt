@@ -1,6 +1,6 @@
 // Runs sise_util and prints its answers: first for each byte its number, its class, and whether it is an atom character and a string character; then
 // for each case, a line of standard input, what check_atom says, what check_atom_prefix says of each length from 0 to one past the case, and the
-// character at each place from 0 to one past the case, as its code point and its number of bytes, or `-`.
+// character at each place from 0 to one past the case, as its code point, or `-` where none is well formed, and its number of bytes.
 //
 // A case is the line's bytes, or, after an `x`, bytes in hexadecimal, two digits each. crates/characters/stdout was made from the same cases by the
 // Rust program compare/, which runs the crate's util.rs and the standard library's UTF-8 decoder (`compare/run characters`).
@@ -18,15 +18,22 @@ fn put_answer(out: &mut Block, at: usize, yes: bool) -> usize {
     }
 }
 
+fn put_length(out: &mut Block, at: usize, len: usize) -> usize {
+    let next = lines::put_byte(out, at, b'/');
+    lines::put_decimal(out, next, len as u64)
+}
+
 fn put_character(out: &mut Block, at: usize, found: Character) -> usize {
     let next = lines::put_byte(out, at, b' ');
     match found {
         Character::Well { code, len } => {
             let next = lines::put_decimal(out, next, code as u64);
-            let next = lines::put_byte(out, next, b'/');
-            lines::put_decimal(out, next, len as u64)
+            put_length(out, next, len)
         }
-        Character::Ill => lines::put_byte(out, next, b'-'),
+        Character::Ill { len } => {
+            let next = lines::put_byte(out, next, b'-');
+            put_length(out, next, len)
+        }
     }
 }
 

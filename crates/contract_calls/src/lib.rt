@@ -3,9 +3,12 @@
 // to refuse it.
 use sise_serializer::Put;
 use sise_serializer::Ran;
+use sise_serializer::Spot;
 ghost use mathlib.Core.Path.{_≡_};
 ghost use mathlib.Core.List.{_++_};
+ghost use Prim.Native.Nat.{_+_, _*_};
 ghost use Rattle.sise_serializer.specs.Bytes.{pastedIf, repeat};
+ghost use Rattle.sise_serializer.specs.Parts.{spotOf};
 ghost use Rattle.sise_serializer.specs.Serializer.{style, answerAs};
 ghost use Rattle.sise_serializer.specs.Words.{answerWord, hasCall, Runs};
 
@@ -40,6 +43,20 @@ pub fn has_call(words: &[u64], at: usize) -> bool
 }
 
 // ---- buffer.rt
+
+// The spot of a token of `token` bytes behind `lead` bytes and `times` indentations, the whole beginning at `position` in a buffer of `room` bytes.
+pub fn find_spot(
+    position: usize,
+    room: usize,
+    lead: usize,
+    times: usize,
+    indentation: usize,
+    token: usize,
+) -> Spot
+    ensures { λ r. ⌜ r ≡ spotOf room position (lead + times * indentation) token ⌝ }
+{
+    sise_serializer::find_spot(position, room, lead, times, indentation, token)
+}
 
 // Copies `src` to the bytes of `buf` that begin at `at`, if they have room.
 pub fn paste(buf: &mut [u8], at: usize, src: &[u8])

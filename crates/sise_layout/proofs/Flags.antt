@@ -1,26 +1,26 @@
 -- The rule with a flag for each open list and the rule with one number give the same answers, bytes, offsets and counts, for every list of calls that
--- does not meet 21: the number is how many lists are open inside the outermost up to the innermost one whose flag is set. The statement is `flags-same`.
+-- does not meet 21: the number counts the lists from the outermost to the innermost one whose flag is set. The statement is `flags-same`.
 -- Assumes nothing.
 use Prim.Native.Nat.{ℕ, suc, _+_, _-_, _*_, _≤_, _<_, min}
 use native.Mathlib.Omega.{arith}
 use mathlib.Core.Path.{_≡_, refl, sym, ap, ap₂, _∙_}
-use mathlib.Core.Bool.{Bool, true, false, _||_, cond, false≢true}
+use mathlib.Core.Bool.{Bool, true, false, cond, false≢true}
 use mathlib.Core.List.{List, [], _∷_, _++_}
 use lib.Dec.{leb, ltb, eqb}
 use lib.ListN.{length}
-use borrow.Author.Tests.{le-leb, leb-true, lt-ltb, le-ltb, ltb-true, eq-eqb, ne-eqb, eqb-true}
+use borrow.Author.Tests.{le-leb, ltb-true, eq-eqb, ne-eqb, eqb-true}
 use Rattle.sise_util.specs.Atom.{isAtom}
 use Rattle.sise_util.proofs.Ranges.{split}
-use Rattle.sise_serializer.specs.Serializer.{Style, Answer, accepted, refused, Written, limit, isSound, listsFit, lastBreak, freshSerializer, refuse, Piece, place, firstAtom, firstList, Gap, newLine, nothing, space, gapAt, newLineOf, laid, innerAs, inner, closeAs, close, last, putIn, putAtom, beginIn, beginList, endIn, endList, finishIn, finishWriting}
+use Rattle.sise_serializer.specs.Serializer.{Style, accepted, Written, limit, isSound, freshSerializer, refuse, Piece, place, firstAtom, firstList, Gap, newLine, nothing, space, gapAt, newLineOf, laid, innerAs, inner, closeAs, close, last, putIn, putAtom, beginIn, beginList, endIn, endList, finishIn, finishWriting}
 use Rattle.sise_serializer.specs.declared.serializer.Phase.{Phase}
 use Rattle.sise_serializer.specs.declared.serializer.Phase.the-variants.{Beginning, Writing, Finished, Done}
 use Rattle.sise_serializer.specs.declared.serializer.Serializer.{Serializer}
 use Rattle.sise_serializer.specs.Calls.{Call, putAtomCall, beginListCall, endListCall, finishCall, isAccepted, step}
-use Rattle.sise_serializer.proofs.Sound.{Sound, sound, writing-lists}
+use Rattle.sise_serializer.proofs.Sound.{sound, writing-lists}
 use Rattle.sise_serializer.proofs.Kept.{atom-bytes, fresh-sound, sound-kept}
-use Rattle.sise_serializer.proofs.Verdicts.{endOf, put, Puts, atomAlone, atomInside, listFirst, listInside, listClosed, textEnded, Verdict, refuses, puts, verdict}
+use Rattle.sise_serializer.proofs.Verdicts.{Puts, atomAlone, atomInside, listFirst, listInside, listClosed, textEnded, Verdict, refuses, puts, verdict}
 use Rattle.sise_layout.specs.Texts.{Styled}
-use Rattle.sise_layout.specs.Reading.{All, none, more}
+use Rattle.sise_layout.specs.Reading.{All, more}
 use Rattle.sise_layout.specs.Flags.{unnumbered, seen, isSoundTo200, isBroken, markedBy, closed, flagsAfter, beginTo200, endByFlag, callByFlags, stepByFlags, byFlags, byNumber, isNot21}
 
 -- ---- the number that flags come to

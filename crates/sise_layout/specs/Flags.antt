@@ -11,7 +11,7 @@ use Rattle.sise_util.specs.Chars.{within, oneOf, isAtomChr}
 use Rattle.sise_util.specs.Classes.{classOf}
 use Rattle.sise_util.specs.Atom.{isAtom, outside, inside, escaped}
 use Rattle.sise_serializer.specs.Examples.{house}
-use Rattle.sise_serializer.specs.Serializer.{Style, Answer, accepted, refused, Written, limit, freshSerializer, listsFit, lastBreak, refuse, place, firstList, Gap, newLine, nothing, space, gapAt, laid, innerAs, inner, phaseAfter, closeAs, putIn, beginIn, endIn, finishIn}
+use Rattle.sise_serializer.specs.Serializer.{Style, accepted, refused, Written, limit, freshSerializer, listsFit, lastBreak, refuse, place, firstList, Gap, newLine, nothing, space, gapAt, laid, innerAs, inner, phaseAfter, closeAs, putIn, beginIn, endIn, finishIn}
 use Rattle.sise_serializer.specs.declared.serializer.Phase.{Phase}
 use Rattle.sise_serializer.specs.declared.serializer.Phase.the-variants.{Beginning, Writing, Finished, Done}
 use Rattle.sise_serializer.specs.declared.serializer.Serializer.{Serializer}

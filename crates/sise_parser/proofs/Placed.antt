@@ -8,7 +8,7 @@ use lib.ListN.{length, drop, length-drop}
 use Rattle.sise_util.specs.Utf8.{character}
 use Rattle.sise_util.specs.declared.utf8.Character.{Character}
 use Rattle.sise_util.specs.declared.utf8.Character.the-variants.{Well, Ill}
-use Rattle.sise_util.proofs.Utf8Laws.{size-fits}
+use Rattle.sise_util.proofs.Utf8Laws.{size-fits, broken-subpart}
 use Rattle.sise_parser.specs.Lexer.{Token, eof, opening, closing, atom, Lexed, found, bad, wrong, between}
 use Rattle.sise_parser.proofs.Induction.{InAtom, Cases, in-between}
 
@@ -37,7 +37,7 @@ wrong-placed m b l p n e = go (character (b ∷ l)) refl
 
     go : (c : Character) → character (b ∷ l) ≡ c → Placed p n (wrong m (b ∷ l) p)
     go (Well c k) d = rw (d, wrong) (fits k (size-fits (b ∷ l) d))
-    go Ill d = rw (d, wrong) (omega arith)
+    go (Ill k) d = rw (d, wrong) (let s = broken-subpart b l d in fits k (s .some, s .inside))
 
 abbrev R : List ℕ → ℕ → Lexed → Type 0
 R l p x = (n : ℕ) → p + length l ≡ n → Placed p n x

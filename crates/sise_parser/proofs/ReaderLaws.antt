@@ -1,5 +1,5 @@
 -- The reader's record over whole readings: a sound record stays sound, an accepted item moves the position, so that n bytes give at most n items; and on
--- valid UTF-8 no call is refused with 8.
+-- valid UTF-8 no call is refused with 8, so that request 2.7 changes nothing there.
 -- Assumes nothing.
 use mathlib.Core.Path.{_≡_, refl, sym, ap, _∙_, subst}
 use mathlib.Core.Bool.{Bool, true, false, cond, false≢true}
@@ -9,11 +9,11 @@ use native.Mathlib.Nat.{le-refl}
 use native.Mathlib.Omega.{arith}
 use lib.Dec.{eqb}
 use lib.ListN.{length, drop}
-use borrow.Author.Tests.{le-leb, leb-true, eqb-true, eqb-false}
+use borrow.Author.Tests.{le-leb, leb-true, eqb-true, eqb-false, ne-eqb}
 use Rattle.sise_util.proofs.Ranges.{split}
 use Rattle.sise_util.specs.Utf8.{Utf8Octets}
 use Rattle.sise_parser.specs.Lexer.{Lexed, found, bad, eof, opening, closing, atom, between}
-use Rattle.sise_parser.specs.Reader.{reader, freshReader, listsFit, isSound, Answer, item, refused, Next, closed, tokenAt, inBeginning, inParsing, nextItem, afterCalls, Ending, ended, notEnded, endsAt, finishIn, finishReading}
+use Rattle.sise_parser.specs.Reader.{reader, freshReader, listsFit, isSound, Answer, item, refused, Next, next, closed, tokenAt, inBeginning, inParsing, nextItem, afterCalls, Ending, ended, notEnded, endsAt, finishIn, finishReading}
 use Rattle.sise_parser.specs.declared.reader.Phase.{Phase}
 use Rattle.sise_parser.specs.declared.reader.Phase.the-variants.{Beginning, Parsing, Finishing}
 use Rattle.sise_parser.specs.declared.reader.Reader.{Reader}
@@ -234,3 +234,29 @@ finish-never-8 text v k = rw (after-sound text k, finishReading) (go (afterCalls
     go Beginning = λ e. omega arith
     go Parsing = λ e. omega arith
     go Finishing = end-answered text (between (drop (r .position) text) (r .position)) (token-border text (r .position) (valid-borders text v k))
+
+-- so request 2.7 changes nothing on valid UTF-8: before it a call left the position after 8 "one byte on" (01), and did all else as now
+
+abbrev oneByteOn : Reader → Answer → Next
+oneByteOn r (item i) = next r (item i)
+oneByteOn r (refused e) = next (reader (cond (eqb (e .number) 8) (e .place + 1) (r .position)) (r .phase) (r .lists)) (refused e)
+
+unfoldable pub nextBefore : List ℕ → Reader → Next
+nextBefore text r = oneByteOn (nextItem text r .reader) (nextItem text r .answer)
+
+unfoldable pub afterCallsBefore : List ℕ → ℕ → Reader
+afterCallsBefore text zero = freshReader
+afterCallsBefore text (suc k) = nextBefore text (afterCallsBefore text k) .reader
+
+not-moved : (r : Reader) (a : Answer) → NotIllFormed a → oneByteOn r a ≡ next r a
+not-moved r (item i) h = refl
+not-moved r (refused e) h = rw (ne-eqb (e .number) 8 h)
+
+pub valid-as-before : (text : List ℕ) → Utf8Octets text → (k : ℕ) → nextBefore text (afterCalls text k) ≡ nextItem text (afterCalls text k)
+unfolding nextBefore
+valid-as-before text v k = not-moved (nextItem text (afterCalls text k) .reader) (nextItem text (afterCalls text k) .answer) (never-8 text v k)
+
+pub valid-calls-as-before : (text : List ℕ) → Utf8Octets text → (k : ℕ) → afterCallsBefore text k ≡ afterCalls text k
+unfolding afterCallsBefore afterCalls
+valid-calls-as-before text v zero = refl
+valid-calls-as-before text v (suc k) = ap (λ (r : Reader). nextBefore text r .reader) (valid-calls-as-before text v k) ∙ ap (λ (x : Next). x .reader) (valid-as-before text v k)

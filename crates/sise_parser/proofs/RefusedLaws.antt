@@ -10,7 +10,7 @@ use native.Mathlib.Omega.{arith}
 use lib.Dec.{lit<, lit≤}
 use lib.ListN.{length, take, drop, getD}
 use Rattle.sise_util.specs.Atom.{Atom}
-use Rattle.sise_util.specs.Utf8.{Utf8Char, character}
+use Rattle.sise_util.specs.Utf8.{Utf8Char, Subpart, character}
 use Rattle.sise_util.proofs.Lists.{drop-next}
 use Rattle.sise_util.proofs.Ranges.{split}
 use Rattle.sise_util.proofs.Utf8Laws.{ill≢well, ill-formed, ascii}
@@ -38,7 +38,7 @@ text-number (wrongChr h k w) = omega arith
 text-number unfinished = lit≤ tt
 text-number unexpectedEof = lit≤ tt
 text-number (unexpectedParen h) = lit≤ tt
-text-number (illFormed h w) = lit≤ tt
+text-number (illFormed w s) = lit≤ tt
 
 -- a refusal of the text, in a phase that stays
 leaves : {text : List ℕ} {r : Reader} {f : Phase} {e : Refusal} {q : ℕ} → r .phase ≡ f → Refuses text e q → Leaves text r e (reader q f (r .lists))
@@ -46,12 +46,19 @@ leaves f w = record { phase = sym f; lists = refl; position = λ _. w; nothing =
 
 -- 8, by its rest
 eight : {text : List ℕ} {e : Refusal} {q : ℕ} → Refuses text e q → e .place < length text → (e .number ≡ 8) ↔ ((k : ℕ) → Utf8Char (take k (drop (e .place) text)) → ⊥)
-eight {text = text} (wrongChr {p = p} h k w) i = (λ d. absurd (omega arith), λ m. absurd (ill≢well (sym (ill-formed (drop p text) .1 m) ∙ w)))
+eight {text = text} (wrongChr {p = p} h k w) i = (λ d. absurd (omega arith), λ m. absurd (ill≢well (sym (ill-formed (drop p text) .1 m .1) ∙ w)))
 eight unfinished i = absurd (omega arith)
 eight unexpectedEof i = absurd (omega arith)
 eight {text = text} (unexpectedParen {p = p} b) i =
-    (λ d. absurd (omega arith), λ m. absurd (ill≢well (sym (ill-formed (drop p text) .1 m) ∙ ap character (drop-next text p i ∙ ap (λ (n : ℕ). n ∷ drop (p + 1) text) b) ∙ ascii 41 (drop (p + 1) text) (lit< tt))))
-eight (illFormed h w) i = (λ d. w, λ m. refl)
+    (λ d. absurd (omega arith), λ m. absurd (ill≢well (sym (ill-formed (drop p text) .1 m .1) ∙ ap character (drop-next text p i ∙ ap (λ (n : ℕ). n ∷ drop (p + 1) text) b) ∙ ascii 41 (drop (p + 1) text) (lit< tt))))
+eight (illFormed w s) i = (λ d. w, λ m. refl)
+
+passed : {text : List ℕ} {e : Refusal} {q : ℕ} → Refuses text e q → e .number ≡ 8 → (k : ℕ) × (Subpart (drop (e .place) text) k) × (q ≡ e .place + k)
+passed (wrongChr h k w) d = absurd (omega arith)
+passed unfinished d = absurd (omega arith)
+passed unexpectedEof d = absurd (omega arith)
+passed (unexpectedParen b) d = absurd (omega arith)
+passed (illFormed {k = k} w s) d = (k, s, refl)
 
 -- the number of a refusal; 0 of an item
 abbrev numberIn : Answer → ℕ
@@ -132,3 +139,7 @@ module _ (text : List ℕ) (r : Reader) where
     -- before the text's end, the refusal is 8 exactly where no prefix of the rest is a well-formed character
     pub exactly-8 : e .place < length text → (e .number ≡ 8) ↔ ((k : ℕ) → Utf8Char (take k (drop (e .place) text)) → ⊥)
     exactly-8 h = eight (refused-leaves a .position t) h
+
+    -- and after 8 the position passes the longest start of a well-formed character found there, at least one byte
+    pub after-8 : e .number ≡ 8 → (k : ℕ) × (Subpart (drop (e .place) text) k) × (q .position ≡ e .place + k)
+    after-8 h = passed (refused-leaves a .position t) h

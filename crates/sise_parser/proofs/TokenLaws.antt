@@ -12,12 +12,12 @@ use lib.Seq.{drop-drop, take-add, getD-drop}
 use borrow.Author.Tests.{eqb-true}
 use Rattle.sise_util.specs.Classes.{Class, left, right, classOf, classNumber}
 use Rattle.sise_util.specs.Atom.{Atom, outside, isAtom}
-use Rattle.sise_util.specs.Utf8.{character}
+use Rattle.sise_util.specs.Utf8.{Subpart, character}
 use Rattle.sise_util.specs.declared.utf8.Character.{Character}
 use Rattle.sise_util.specs.declared.utf8.Character.the-variants.{Well, Ill}
 use Rattle.sise_util.proofs.AtomLaws.{atom-test}
 use Rattle.sise_util.proofs.ClassLaws.{left-number, right-number}
-use Rattle.sise_util.proofs.Utf8Laws.{ill-formed}
+use Rattle.sise_util.proofs.Utf8Laws.{ill-formed, broken-subpart}
 use Rattle.sise_parser.specs.Refusals.{refusal}
 use Rattle.sise_parser.specs.Lexer.{Lexed, found, bad, eof, opening, closing, atom, wrong, between}
 use Rattle.sise_parser.specs.Refused.{Refuses, wrongChr, unfinished, illFormed}
@@ -49,7 +49,8 @@ module _ {text : List ℕ} {p b : ℕ} {l : List ℕ} (i : Ends text p (b ∷ l)
     where
       go : (c : Character) → character (b ∷ l) ≡ c → Says text (wrong n (b ∷ l) p)
       go (Well c m) e = rw (e, wrong) (wrongChr h k (ap character (i .rest) ∙ e))
-      go Ill e = rw (e, wrong) (illFormed {p = p} (omega (arith, i .whole)) (ill-formed (drop p text) .0 (ap character (i .rest) ∙ e)))
+      go (Ill m) e =
+          rw (e, wrong) (illFormed {p = p} (ill-formed (drop p text) .0 (m, ap character (i .rest) ∙ e)) (subst (λ (s : List ℕ). Subpart s m) (sym (i .rest)) (broken-subpart b l e)))
 
   -- the bytes from s on, with one more
   one-more : (s : ℕ) → s < p → take (p + 1 - s) (drop s text) ≡ take (p - s) (drop s text) ++ b ∷ []

@@ -83,6 +83,32 @@ pub after-6-and-8 : nextItem (41 ∷ 97 ∷ []) freshReader ∷ nextItem (195 �
 unfolding nextItem nextIn isSound tokenAt inBeginning inParsing between wrong classOf character byRows forms follow within
 after-6-and-8 = refl
 
+-- request 2.7: its own two, 0xE2 0x82 0x28 and 0xC0 0xAF; the first in a string and in a comment; 0xF1 0x80 0x80 at the end of a list's text
+pub after-8 :
+    nextItem (0xE2 ∷ 0x82 ∷ 0x28 ∷ []) freshReader ∷
+    nextItem (0xC0 ∷ 0xAF ∷ []) freshReader ∷
+    nextItem (34 ∷ 0xE2 ∷ 0x82 ∷ 0x28 ∷ []) freshReader ∷
+    nextItem (59 ∷ 0xE2 ∷ 0x82 ∷ 0x28 ∷ []) freshReader ∷
+    nextItem (40 ∷ 0xF1 ∷ 0x80 ∷ 0x80 ∷ []) (reader 1 Parsing 1) ∷
+    [] ≡
+    next (reader 2 Beginning 0) (refused (refusal 8 0 0)) ∷
+    next (reader 1 Beginning 0) (refused (refusal 8 0 0)) ∷
+    next (reader 3 Beginning 0) (refused (refusal 8 1 0)) ∷
+    next (reader 3 Beginning 0) (refused (refusal 8 1 0)) ∷
+    next (reader 4 Parsing 1) (refused (refusal 8 1 0)) ∷
+    []
+unfolding nextItem nextIn isSound tokenAt inBeginning inParsing between comment string wrong classOf character byRows forms follow within
+after-8 = refl
+
+-- from fault to fault: 0xE2 0x82 and 0xF1 0x80 0x80 in a row, then `(`, are two; 0xE0 0x80, whose second byte is no part of the first's character, too
+pub fault-to-fault :
+    answersFrom (0xE2 ∷ 0x82 ∷ 0xF1 ∷ 0x80 ∷ 0x80 ∷ 0x28 ∷ []) freshReader 3 ∷ answersFrom (0xE0 ∷ 0x80 ∷ 0x28 ∷ []) freshReader 3 ∷ [] ≡
+    (refused (refusal 8 0 0) ∷ refused (refusal 8 2 0) ∷ item (ListStart 5) ∷ []) ∷
+    (refused (refusal 8 0 0) ∷ refused (refusal 8 1 0) ∷ item (ListStart 2) ∷ []) ∷
+    []
+unfolding answersFrom nextItem nextIn isSound tokenAt inBeginning between wrong classOf character byRows forms follow within
+fault-to-fault = refl
+
 -- records at the bounds of soundness over `((`: a position past the text; more open lists than the position; an open list in beginning and in
 -- finishing; none while parsing
 unfoldable pub unsoundReaders : List Reader

@@ -22,17 +22,13 @@ pub data Lexed : Type 0 where
 abbrev pub unfinished : ℕ → Lexed
 unfinished p = bad (refusal 4 p 0) p
 
--- 8 leaves the position one byte on
-abbrev pub illFormedEnd : ℕ → ℕ
-illFormedEnd p = p + 1
-
 -- "A wrong byte is decoded to name its code point, else 8": the bytes l from p on begin with it, and n says where it stands. 1 to 3 leave the
--- position after the character
+-- position after the character; "After 8 the position now passes the longest start of a well-formed character found there, at least one byte" (02, 2.7)
 unfoldable pub wrong : ℕ → List ℕ → ℕ → Lexed
 wrong n l p =
     elim (character l) [
       | Well c k ↦ bad (refusal n p c) (p + k)
-      | Ill ↦ bad (refusal 8 p 0) (illFormedEnd p)
+      | Ill k ↦ bad (refusal 8 p 0) (p + k)
     ]
 
 -- the token at or after p, where the bytes from p on are l, in five states: between tokens, in a comment, and in an atom that began at s outside a

@@ -4,7 +4,7 @@ use Prim.Native.Nat.{ℕ, _+_, _≤_, _<_}
 use mathlib.Core.Path.{_≡_}
 use mathlib.Core.List.{List}
 use lib.ListN.{length, take, drop, getD}
-use Rattle.sise_util.specs.Utf8.{Utf8Char, character}
+use Rattle.sise_util.specs.Utf8.{Utf8Char, Subpart, character}
 use Rattle.sise_util.specs.declared.utf8.Character.the-variants.{Well}
 use Rattle.sise_parser.specs.Refusals.{Refusal, refusal}
 use Rattle.sise_parser.specs.declared.reader.Reader.{Reader}
@@ -18,8 +18,9 @@ pub data Refuses (text : List ℕ) : Refusal → ℕ → Type 0 where
   unexpectedEof : Refuses text (refusal 5 (length text) 0) (length text)
   -- "6 ..., after the `)`"
   unexpectedParen : {p : ℕ} → getD text p 0 ≡ 41 → Refuses text (refusal 6 p 0) (p + 1)
-  -- "8, one byte on": no prefix of the rest is a character by RFC 3629
-  illFormed : {p : ℕ} → p < length text → ((k : ℕ) → Utf8Char (take k (drop p text)) → ⊥) → Refuses text (refusal 8 p 0) (p + 1)
+  -- 8: no prefix of the rest is a character by RFC 3629, and "the position now passes the longest start of a well-formed character found there, at
+  -- least one byte" (02, 2.7)
+  illFormed : {p k : ℕ} → ((j : ℕ) → Utf8Char (take j (drop p text)) → ⊥) → Subpart (drop p text) k → Refuses text (refusal 8 p 0) (p + k)
 
 -- the record q after a call with the record r that was refused with e
 pub record Leaves (text : List ℕ) (r : Reader) (e : Refusal) (q : Reader) : Type 0 where

@@ -82,9 +82,9 @@ fn wrong_chr(place: Place, text: &[u8], at: usize) -> Wrong
             error: illegal_chr(place, at, code),
             position: at + len,
         },
-        Character::Ill => Wrong {
+        Character::Ill { len } => Wrong {
             error: ParseError::IllFormedChr { pos: at },
-            position: at + 1,
+            position: at + len,
         },
     }
 }

@@ -1,28 +1,27 @@
 -- From what the code knows at a return to the promise of its contract: for refusals, for pieces with and without room, and for each call.
 -- Assumes nothing.
-use Prim.Native.Nat.{ℕ, _+_, _-_, _*_, _≤_, _<_, min}
+use Prim.Native.Nat.{ℕ, _+_, _≤_, _<_}
 use native.Mathlib.Nat.{add-zero}
 use native.Mathlib.Omega.{arith}
 use mathlib.Core.Path.{_≡_, refl, sym, ap, _∙_}
-use mathlib.Core.Bool.{Bool, true, false, _||_, cond, false≢true}
+use mathlib.Core.Bool.{Bool, true, false, cond}
 use mathlib.Core.List.{List, [], _∷_, _++_}
 use lib.ListN.{length}
 use borrow.Author.Tests.{lt-ltb, le-ltb, eq-eqb, ne-eqb}
 use Rattle.sise_util.specs.Atom.{isAtom}
 use Rattle.sise_util.proofs.Ranges.{split}
 use Rattle.sise_serializer.specs.Bytes.{pasted}
-use Rattle.sise_serializer.specs.Serializer.{Answer, refused, answerAs, DoesAs, isSound, Style, style, Piece, refuse, place, firstAtom, firstList, Gap, newLine, nothing, space, gapAt, laid, inner, innerAs, phaseAfter, close, closeAs, last, putIn, putAtom, beginIn, beginList, endIn, endList, finishIn, finishWriting}
+use Rattle.sise_serializer.specs.Serializer.{Answer, refused, answerAs, DoesAs, isSound, Style, Piece, refuse, place, Gap, newLine, nothing, space, gapAt, laid, inner, innerAs, close, closeAs, putIn, putAtom, beginIn, beginList, endIn, endList, finishIn, finishWriting}
 use Rattle.sise_serializer.specs.Calls.{Call, putAtomCall, beginListCall, endListCall, finishCall, step}
-use Rattle.sise_serializer.specs.Parts.{Places, spotOf, inLine, tokenOf, gapBytes, firstItem, itemCall}
+use Rattle.sise_serializer.specs.Parts.{Places, spotOf, inLine, gapBytes}
 use Rattle.sise_serializer.specs.declared.serializer.Phase.{Phase}
-use Rattle.sise_serializer.specs.declared.serializer.Phase.the-variants.{Beginning, Writing, Finished, Done}
 use Rattle.sise_serializer.specs.declared.serializer.Serializer.{Serializer}
 use Rattle.sise_serializer.specs.declared.serializer.Wrote.{Wrote}
 use Rattle.sise_serializer.specs.declared.buffer.Spot.{Spot}
 use Rattle.sise_serializer.specs.declared.buffer.Spot.the-variants as spot
 use Rattle.sise_serializer.specs.declared.serializer.Put.{Put}
 use Rattle.sise_serializer.specs.declared.serializer.Put.the-variants as put
-use Rattle.sise_serializer.proofs.Bytes.{pasted-none}
+use Rattle.sise_serializer.proofs.Bytes.{pasted-none, pasted-behind}
 use Rattle.sise_serializer.proofs.Spots.{found, not-found}
 
 -- ---- refusals and pieces
@@ -43,6 +42,14 @@ module _ (w : Serializer) (before : List ℕ) where
         let f = found (length before) (w .position) (length (b .layout)) (length (b .token)) (sym t ∙ h) in
         rw (f .test) (record { serializer = q (f .end); answer = ap Answer.accepted (f .offset); buffer = n })
 
+    -- the same, where the token was written after the layout
+    pub placed-behind : {o e : ℕ} {v : Serializer} {mid now : List ℕ} → r ≡ spot.At o e → mid ≡ pasted before (w .position) (b .layout) → now ≡ pasted mid o (b .token)
+        → (e ≡ w .position + length (b .layout) + length (b .token) → v ≡ b .after)
+        → Places b w before (record { serializer = v; answer = put.At o }) now
+    placed-behind t m n q =
+        let f = found (length before) (w .position) (length (b .layout)) (length (b .token)) (sym t ∙ h) in
+        placed t q (pasted-behind before (w .position) (b .layout) (b .token) m (f .offset) n (omega (arith, f .in-room)))
+
     -- a piece without room
     pub full : {x : Wrote} → x ≡ record { serializer = w; answer = put.NoRoom } → r ≡ spot.NoRoom → Places b w before x before
     unfolding place
@@ -50,65 +57,37 @@ module _ (w : Serializer) (before : List ℕ) where
         rw (not-found (length before) (w .position) (length (b .layout)) (length (b .token)) (sym t ∙ h))
         (refused-does 22 g refl)
 
--- the first item
-module _ (w : Serializer) (before : List ℕ) (a : List ℕ) where
-  module _ {r : Spot} {o e : ℕ} {v : Serializer} {now : List ℕ} (t : r ≡ spot.At o e) where
-    pub first-list : (isList : Bool) → isList ≡ true → r ≡ spotOf (length before) (w .position) 0 (length (tokenOf isList a)) → now ≡ pasted before o (tokenOf isList a)
-        → (e ≡ w .position + 1 → v ≡ firstList w .after)
-        → Places (firstItem w a isList) w before (record { serializer = v; answer = put.At o }) now
-    unfolding firstList
-    first-list true k h n q =
-        let f = found (length before) (w .position) 0 1 (sym t ∙ h) in
-        placed w before (firstList w) h t (λ x. q (x ∙ rw (add-zero (w .position)))) (n ∙ rw (f .offset, add-zero (w .position)))
-    first-list false k h n q = absurd (false≢true k)
-
-    pub first-atom : (isList : Bool) → isList ≡ false → r ≡ spotOf (length before) (w .position) 0 (length (tokenOf isList a)) → now ≡ pasted before o (tokenOf isList a)
-        → (e ≡ w .position + length a → v ≡ firstAtom w a .after)
-        → Places (firstItem w a isList) w before (record { serializer = v; answer = put.At o }) now
-    unfolding firstAtom
-    first-atom true k h n q = absurd (false≢true (sym k))
-    first-atom false k h n q =
-        let f = found (length before) (w .position) 0 (length a) (sym t ∙ h) in
-        placed w before (firstAtom w a) h t (λ x. q (x ∙ rw (add-zero (w .position)))) (n ∙ rw (f .offset, add-zero (w .position)))
-
-  -- without room
-  pub first-full : (isList : Bool) {r : Spot} {x : Wrote} → r ≡ spotOf (length before) (w .position) 0 (length (tokenOf isList a)) → x ≡ record { serializer = w; answer = put.NoRoom } → r ≡ spot.NoRoom
-      → Places (firstItem w a isList) w before x before
-  unfolding firstList firstAtom
-  first-full true h g t = full w before (firstList w) h g t
-  first-full false h g t = full w before (firstAtom w a) h g t
-
 -- ---- an item in a list
 
 -- the gap, from the two tests of the code
 module _ (w : Serializer) (t : ℕ) where
-  gap-new-line : t ≤ w .«line_len» → gapAt w t ≡ newLine
+  pub gap-new-line : t ≤ w .«line_len» → gapAt w t ≡ newLine
   gap-new-line h = simp (le-ltb _ _ h)
 
-  gap-nothing : w .«line_len» < t → w .«list_beginning» ≡ true → gapAt w t ≡ nothing
+  pub gap-nothing : w .«line_len» < t → w .«list_beginning» ≡ true → gapAt w t ≡ nothing
   gap-nothing h b = simp (lt-ltb _ _ h, b)
 
-  gap-space : w .«line_len» < t → w .«list_beginning» ≡ false → gapAt w t ≡ space
+  pub gap-space : w .«line_len» < t → w .«list_beginning» ≡ false → gapAt w t ≡ space
   gap-space h b = simp (lt-ltb _ _ h, b)
 
 -- an item behind that gap: on a new line, or in the same one behind a space unless a list begins
 module _ (s : Style) (w : Serializer) (token : List ℕ) (isList : Bool) (t : ℕ) where
-  inner-is : {g : Gap} → gapAt w t ≡ g → inner s w token isList t ≡ innerAs s w token isList g
+  pub inner-is : {g : Gap} → gapAt w t ≡ g → inner s w token isList t ≡ innerAs s w token isList g
   unfolding inner
   inner-is gap = ap (innerAs s w token isList) gap
 
-  new-line-is : t ≤ w .«line_len» → inner s w token isList t ≡ innerAs s w token isList newLine
+  pub new-line-is : t ≤ w .«line_len» → inner s w token isList t ≡ innerAs s w token isList newLine
   new-line-is h = inner-is (gap-new-line w t h)
 
-  nothing-is : gapAt w t ≡ nothing → inner s w token isList t ≡ inLine w token isList []
+  pub nothing-is : gapAt w t ≡ nothing → inner s w token isList t ≡ inLine w token isList []
   unfolding innerAs laid inLine
   nothing-is gap = inner-is gap ∙ rw (add-zero (w .«line_len»), add-zero (w .spaces))
 
-  space-is : gapAt w t ≡ space → inner s w token isList t ≡ inLine w token isList (32 ∷ [])
+  pub space-is : gapAt w t ≡ space → inner s w token isList t ≡ inLine w token isList (32 ∷ [])
   unfolding innerAs laid inLine
   space-is gap = inner-is gap
 
-  in-line-is : w .«line_len» < t → inner s w token isList t ≡ inLine w token isList (gapBytes (w .«list_beginning»))
+  pub in-line-is : w .«line_len» < t → inner s w token isList t ≡ inLine w token isList (gapBytes (w .«list_beginning»))
   in-line-is h =
       split (w .«list_beginning»)
       (λ b. nothing-is (gap-nothing w t h b) ∙ ap (λ (g : Bool). inLine w token isList (gapBytes g)) (sym b))
@@ -154,44 +133,14 @@ module _ (s : Style) (room : ℕ) (w : Serializer) where
     unfolding step finishWriting
     finish-in wished h = rw e (ap (λ (q : Phase). finishIn q s room w wished) h)
 
-    -- an item's call: a list's or an atom's
-    module _ (a : List ℕ) (t : ℕ) where
-      pub item-no-atom : (isList : Bool) → (isList || isAtom a) ≡ false → step s room w (itemCall a isList t) ≡ refuse 17 w
-      unfolding step itemCall putAtom
-      item-no-atom true f = absurd (false≢true (sym f))
-      item-no-atom false f = rw (e, f)
+    pub begin-in : (t : ℕ) {p : Phase} → w .phase ≡ p → step s room w (beginListCall t) ≡ beginIn p s room w t
+    unfolding step beginList
+    begin-in t h = rw e (ap (λ (q : Phase). beginIn q s room w t) h)
 
-      -- by the phase, in which a list is begun or an atom put
-      item-in : (isList : Bool) {p : Phase} → (isList || isAtom a) ≡ true → w .phase ≡ p
-          → step s room w (itemCall a isList t) ≡ cond isList (beginIn p s room w t) (putIn p s room w a t)
-      unfolding step itemCall putAtom beginList
-      item-in true f h = rw e (ap (λ (q : Phase). beginIn q s room w t) h)
-      item-in false f h = rw (e, f) (ap (λ (q : Phase). putIn q s room w a t) h)
+    pub put-no-atom : (a : List ℕ) (t : ℕ) → isAtom a ≡ false → step s room w (putAtomCall a t) ≡ refuse 17 w
+    unfolding step putAtom
+    put-no-atom a t f = rw (e, f)
 
-      pub item-first : (isList : Bool) → (isList || isAtom a) ≡ true → w .phase ≡ Beginning → step s room w (itemCall a isList t) ≡ place room w (firstItem w a isList)
-      unfolding beginIn putIn
-      item-first true f h = item-in true f h
-      item-first false f h = item-in false f h
-
-      item-inner : (isList : Bool) → (isList || isAtom a) ≡ true → w .phase ≡ Writing
-          → step s room w (itemCall a isList t) ≡ place room w (inner s w (tokenOf isList a) isList t)
-      unfolding beginIn putIn
-      item-inner true f h = item-in true f h
-      item-inner false f h = item-in false f h
-
-      module _ (isList : Bool) (f : (isList || isAtom a) ≡ true) (h : w .phase ≡ Writing) where
-        pub item-new-line : t ≤ w .«line_len» → step s room w (itemCall a isList t) ≡ place room w (innerAs s w (tokenOf isList a) isList newLine)
-        item-new-line k = item-inner isList f h ∙ ap (place room w) (new-line-is s w (tokenOf isList a) isList t k)
-
-        pub item-in-line : w .«line_len» < t → step s room w (itemCall a isList t) ≡ place room w (inLine w (tokenOf isList a) isList (gapBytes (w .«list_beginning»)))
-        item-in-line k = item-inner isList f h ∙ ap (place room w) (in-line-is s w (tokenOf isList a) isList t k)
-
-      pub item-finished : (isList : Bool) → (isList || isAtom a) ≡ true → w .phase ≡ Finished → step s room w (itemCall a isList t) ≡ refuse 19 w
-      unfolding beginIn putIn
-      item-finished true f h = item-in true f h
-      item-finished false f h = item-in false f h
-
-      pub item-done : (isList : Bool) → (isList || isAtom a) ≡ true → w .phase ≡ Done → step s room w (itemCall a isList t) ≡ refuse 19 w
-      unfolding beginIn putIn
-      item-done true f h = item-in true f h
-      item-done false f h = item-in false f h
+    pub put-in : (a : List ℕ) (t : ℕ) {p : Phase} → isAtom a ≡ true → w .phase ≡ p → step s room w (putAtomCall a t) ≡ putIn p s room w a t
+    unfolding step putAtom
+    put-in a t f h = rw (e, f) (ap (λ (q : Phase). putIn q s room w a t) h)

@@ -126,7 +126,7 @@ module _ (s : Style) (w : Serializer) (h : Sound w) where
     steps = stay (w .position) (h .steps) (omega arith);
   }
 
-  piece-kept : (c : Call) (p : Piece) → Puts s w c p → endOf w p ≤ limit → Sound (p .after)
+  pub piece-kept : (c : Call) (p : Piece) → Puts s w c p → endOf w p ≤ limit → Sound (p .after)
   piece-kept c p (atomAlone {a = a} f k) e = first-atom a f e
   piece-kept c p (atomInside {a = a} {t = t} f k) e = inside f a false t (atom-bytes a k) e
   piece-kept c p (listFirst f) e = first-list f e

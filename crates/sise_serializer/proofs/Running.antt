@@ -13,19 +13,18 @@ use lib.ListN.{length, getD, take, drop, set, length-drop, length-set}
 use lib.Seq.{take-nil, drop-cons, take-suc-set, drop-set-lt, append-snoc}
 use types.Run.{OneOf}
 use denote.Enum.Declared.{tagOf}
-use borrow.Author.Tests.{leb-true, leb-false, le-leb, lt-leb, eq-eqb, ne-eqb, eqb-true, eqb-false}
+use borrow.Author.Tests.{leb-true, leb-false, le-leb, lt-leb, eq-eqb, ne-eqb}
 use Rattle.sise_parser.specs.Reader.{partOf}
 use Rattle.sise_util.proofs.Ranges.{split, and-first, and-second}
 use Rattle.sise_serializer.specs.Bytes.{pasted}
 use Rattle.sise_serializer.specs.Serializer.{Style, answerAs, numberOf, freshSerializer, isSound}
-use Rattle.sise_serializer.specs.Parts.{itemCall}
 use Rattle.sise_serializer.specs.declared.serializer.Serializer.{Serializer}
 use Rattle.sise_serializer.specs.declared.serializer.Put.{Put}
 use Rattle.sise_serializer.specs.declared.serializer.Put.the-variants.{At, UnsoundRecord, InvalidAtom, NoListToEnd, WritingFinished, WritingNotFinished, NoRoom}
 use Rattle.sise_serializer.proofs.serializer.Put as puts
 use Rattle.sise_serializer.proofs.Bytes.{pasted-none}
 use Rattle.sise_serializer.proofs.Kept.{fresh-sound, sound-kept}
-use Rattle.sise_serializer.specs.Calls.{Call, putAtomCall, beginListCall, endListCall, finishCall, step, run, writing}
+use Rattle.sise_serializer.specs.Calls.{Call, putAtomCall, beginListCall, endListCall, finishCall, step, run}
 use Rattle.sise_serializer.specs.Words.{callOf, callAt, hasCall, decoded, callsOf, answerWord, Runs}
 
 -- ---- the call of a kind
@@ -33,11 +32,6 @@ use Rattle.sise_serializer.specs.Words.{callOf, callAt, hasCall, decoded
 finish-by : (b : Bool) → cond b (finishCall false) (finishCall true) ≡ finishCall (not b)
 finish-by true = refl
 finish-by false = refl
-
-below-two : (n : ℕ) → n < 2 → (n ≡ 1 → ⊥) → n ≡ 0
-below-two zero h f = refl
-below-two (suc zero) h f = absurd (f refl)
-below-two (suc (suc n)) h f = absurd (omega arith)
 
 module _ (words atoms : List ℕ) (at : ℕ) where
   pub call-atom : getD words at 0 ≡ 0 → callAt words atoms at ≡ putAtomCall (partOf atoms (getD words (at + 1) 0) (getD words (at + 2) 0)) (getD words (at + 3) 0)
@@ -47,15 +41,6 @@ module _ (words atoms : List ℕ) (at : ℕ) where
   pub call-begin : (getD words at 0 ≡ 0 → ⊥) → getD words at 0 ≡ 1 → callAt words atoms at ≡ beginListCall (getD words (at + 3) 0)
   unfolding callOf
   call-begin a e = rw (ne-eqb _ _ a, eq-eqb _ _ e)
-
-  -- an atom's call or a list's
-  pub call-item : getD words at 0 < 2
-      → callAt words atoms at ≡ itemCall (partOf atoms (getD words (at + 1) 0) (getD words (at + 2) 0)) (eqb (getD words at 0) 1) (getD words (at + 3) 0)
-  unfolding itemCall
-  call-item h =
-      split (eqb (getD words at 0) 1)
-      (λ e. let one = eqb-true _ _ e in rw (call-begin (λ z. absurd (omega arith)) one, e))
-      (λ e. rw (call-atom (below-two _ h (eqb-false _ _ e)), e))
 
   pub call-end : (getD words at 0 ≡ 0 → ⊥) → (getD words at 0 ≡ 1 → ⊥) → getD words at 0 ≡ 2 → callAt words atoms at ≡ endListCall
   unfolding callOf

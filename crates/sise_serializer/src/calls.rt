@@ -4,7 +4,8 @@ use crate::serializer::Serializer;
 use crate::serializer::Wrote;
 use crate::serializer::close_list;
 use crate::serializer::finish_text;
-use crate::serializer::put_item;
+use crate::serializer::open_list;
+use crate::serializer::write_atom;
 use sise_parser::atom_bytes;
 ghost use mathlib.Core.Path.{_≡_};
 ghost use mathlib.Core.Bool.{true};
@@ -60,9 +61,12 @@ fn run_call(
     let place = words[at + 1];
     let len = words[at + 2];
     let threshold = words[at + 3];
-    if kind < 2 {
+    if kind == 0 {
         let atom = atom_bytes(atoms, place as usize, len as usize);
-        return put_item(w, line_break, indentation, buf, atom, kind == 1, threshold);
+        return write_atom(w, line_break, indentation, buf, atom, threshold);
+    }
+    if kind == 1 {
+        return open_list(w, line_break, indentation, buf, threshold);
     }
     if kind == 2 {
         return close_list(w, line_break, indentation, buf);

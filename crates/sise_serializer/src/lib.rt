@@ -8,7 +8,6 @@ pub use buffer::Spot;
 pub use buffer::find_spot;
 pub use buffer::paste;
 pub use buffer::paste_line;
-pub use buffer::token_len;
 pub use calls::Ran;
 pub use calls::has_call;
 pub use calls::put_word;

@@ -1,26 +1,25 @@
-// The writer's record and its four calls. A call finds out whether it fits before it writes. Each arm of a `match` returns by itself: what an arm yields
-// would be copied once more. An atom and a list take one way through one function each: a function with one caller becomes a part of it, and then the
-// record stays in registers.
+// The writer's record and its four calls. A method tests the record and goes on to the function below that wants a sound one; that one finds out whether
+// the call fits before it writes. Each arm of a `match` returns by itself: what an arm yields would be copied once more. A function with one caller becomes
+// a part of it, and then the record stays in registers: so an atom and a list have functions of their own, though they are much alike.
 use crate::buffer::LIMIT;
 use crate::buffer::Spot;
 use crate::buffer::break_len;
+use crate::buffer::copy;
 use crate::buffer::find_spot;
-use crate::buffer::token_len;
 use crate::buffer::write_break;
 use crate::buffer::write_gap;
 use crate::buffer::write_line;
-use crate::buffer::write_token;
 use sise_util::check_atom;
 use sise_util::is_plain;
 ghost use mathlib.Core.Path.{_≡_};
-ghost use mathlib.Core.Bool.{true, false, _||_, cond};
-ghost use mathlib.Core.List.{[]};
-ghost use Prim.Native.Nat.{_≤_, _<_};
+ghost use mathlib.Core.Bool.{true, false, cond};
+ghost use mathlib.Core.List.{[], _∷_};
+ghost use Prim.Native.Nat.{_<_};
 ghost use lib.ListN.{length};
 ghost use Rattle.sise_util.specs.Atom.{isAtom};
-ghost use Rattle.sise_serializer.specs.Serializer.{limit, freshSerializer, style, listsFit, lastBreak, isSound, answerAs, numberOf, phaseAfter, newLine, innerAs, closeAs, last};
+ghost use Rattle.sise_serializer.specs.Serializer.{freshSerializer, style, listsFit, lastBreak, isSound, answerAs, numberOf, phaseAfter, firstAtom, firstList, newLine, innerAs, closeAs, last};
 ghost use Rattle.sise_serializer.specs.Calls.{Does, putAtomCall, beginListCall, endListCall, finishCall};
-ghost use Rattle.sise_serializer.specs.Parts.{Small, Places, itemCall, addedWith, inLine, tokenOf, gapBytes, firstItem};
+ghost use Rattle.sise_serializer.specs.Parts.{Small, Places, addedWith, inLine, gapBytes};
 
 // Where the writer is: before the first item, inside the outermost list, after the last item, or after an accepted finish.
 pub enum Phase {
@@ -165,15 +164,7 @@ impl Serializer {
         if !self.is_sound() {
             return refused(self, Put::UnsoundRecord);
         }
-        put_item(
-            self,
-            line_break,
-            indentation,
-            buf,
-            atom,
-            false,
-            break_line_at,
-        )
+        write_atom(self, line_break, indentation, buf, atom, break_line_at)
     }
 
     // Begins a list. Inside another it goes on a new line if the line is at least `break_line_at` bytes long.
@@ -189,7 +180,7 @@ impl Serializer {
         if !self.is_sound() {
             return refused(self, Put::UnsoundRecord);
         }
-        put_item(self, line_break, indentation, buf, b"", true, break_line_at)
+        open_list(self, line_break, indentation, buf, break_line_at)
     }
 
     // Ends the innermost list that is open.
@@ -240,72 +231,85 @@ fn refused(w: Serializer, answer: Put) -> Wrote
     }
 }
 
-// ---- the calls on a sound record: begin_list and put_atom
-
-// Whether a list, or what should be an atom, can be put.
-fn is_item(atom: &[u8], is_list: bool) -> bool
-    ensures { λ r. ⌜ r ≡ («is_list» || isAtom (now (atom .entry))) ⌝ }
+// The record behind an item in a list.
+fn added(
+    lists: usize,
+    broken: usize,
+    position: usize,
+    line_len: usize,
+    spaces: usize,
+    breaks: usize,
+    indents: usize,
+    list_beginning: bool,
+) -> Serializer
+    ensures { λ r. ⌜ r ≡ addedWith lists broken position «line_len» spaces breaks indents «list_beginning» ⌝ }
 {
-    if is_list || is_plain(atom) {
+    Serializer {
+        position,
+        lists,
+        broken,
+        line_len,
+        spaces,
+        breaks,
+        indents,
+        phase: Phase::Writing,
+        list_beginning,
+    }
+}
+
+// How many spaces stand before an item that stays in its line.
+fn spaces_before(list_beginning: bool) -> usize
+    ensures { λ r. ⌜ r ≡ length (gapBytes «list_beginning») ⌝ }
+{
+    if list_beginning { 0 } else { 1 }
+}
+
+// ---- put_atom
+
+// Most atoms are plain, and that is the faster test.
+fn is_atom(atom: &[u8]) -> bool
+    ensures { λ r. ⌜ r ≡ isAtom (now (atom .entry)) ⌝ }
+{
+    if is_plain(atom) {
         return true;
     }
     check_atom(atom)
 }
 
-// Begins a list, or checks an atom and puts it.
-pub(crate) fn put_item(
+pub(crate) fn write_atom(
     w: Serializer,
     line_break: &[u8],
     indentation: &[u8],
     buf: &mut [u8],
     atom: &[u8],
-    is_list: bool,
     break_line_at: u64,
 ) -> Wrote
     requires { ⌜ isSound w ≡ true ⌝ }
-    ensures { λ r. ⌜ Does (itemCall (now (atom .entry)) «is_list» «break_line_at») (style (now («line_break» .entry)) (now (indentation .entry))) w (now (buf .entry)) r (now (buf .exit)) ⌝ }
+    ensures { λ r. ⌜ Does (putAtomCall (now (atom .entry)) «break_line_at») (style (now («line_break» .entry)) (now (indentation .entry))) w (now (buf .entry)) r (now (buf .exit)) ⌝ }
 {
-    if !is_item(atom, is_list) {
+    if !is_atom(atom) {
         return refused(w, Put::InvalidAtom);
     }
     let phase = w.phase;
     match phase {
-        Phase::Beginning => return first_item(w, buf, atom, is_list),
+        Phase::Beginning => return first_atom(w, buf, atom),
         Phase::Writing => {
             if break_line_at <= w.line_len as u64 {
-                return on_new_line(w, line_break, indentation, buf, atom, is_list);
+                return atom_on_new_line(w, line_break, indentation, buf, atom);
             }
-            return in_line(w, buf, atom, is_list);
+            return atom_in_line(w, buf, atom);
         }
         Phase::Finished => return refused(w, Put::WritingFinished),
         Phase::Done => return refused(w, Put::WritingFinished),
     }
 }
 
-// The first item.
-fn first_item(w: Serializer, buf: &mut [u8], atom: &[u8], is_list: bool) -> Wrote
-    ensures { λ r. ⌜ Places (firstItem w (now (atom .entry)) «is_list») w (now (buf .entry)) r (now (buf .exit)) ⌝ }
+fn first_atom(w: Serializer, buf: &mut [u8], atom: &[u8]) -> Wrote
+    ensures { λ r. ⌜ Places (firstAtom w (now (atom .entry))) w (now (buf .entry)) r (now (buf .exit)) ⌝ }
 {
-    let position = w.position;
-    match find_spot(position, buf.len(), 0, 0, 0, token_len(atom, is_list)) {
+    match find_spot(w.position, buf.len(), 0, 0, 0, atom.len()) {
         Spot::At(at, end) => {
-            write_token(buf, at, atom, is_list);
-            if is_list {
-                return Wrote {
-                    serializer: Serializer {
-                        position: end,
-                        lists: 1,
-                        broken: 0,
-                        line_len: 1,
-                        spaces: w.spaces,
-                        breaks: w.breaks,
-                        indents: w.indents,
-                        phase: Phase::Writing,
-                        list_beginning: true,
-                    },
-                    answer: Put::At(at),
-                };
-            }
+            copy(buf, at, atom);
             return Wrote {
                 serializer: Serializer {
                     position: end,
@@ -325,63 +329,37 @@ fn first_item(w: Serializer, buf: &mut [u8], atom: &[u8], is_list: bool) -> Wrot
     }
 }
 
-// The record behind an item in a list.
-fn added(
-    lists: usize,
-    is_list: bool,
-    broken: usize,
-    position: usize,
-    line_len: usize,
-    spaces: usize,
-    breaks: usize,
-    indents: usize,
-) -> Serializer
-    requires { ⌜ lists ≤ limit ⌝ }
-    ensures { λ r. ⌜ r ≡ addedWith lists «is_list» broken position «line_len» spaces breaks indents ⌝ }
-{
-    let mut open = lists;
-    if is_list {
-        open += 1;
-    }
-    Serializer {
-        position,
-        lists: open,
-        broken,
-        line_len,
-        spaces,
-        breaks,
-        indents,
-        phase: Phase::Writing,
-        list_beginning: is_list,
-    }
-}
-
-// An item on a new line. Every open list has a break in it from then on.
-fn on_new_line(
+// On a new line. Every open list has a break in it from then on.
+fn atom_on_new_line(
     w: Serializer,
     line_break: &[u8],
     indentation: &[u8],
     buf: &mut [u8],
     atom: &[u8],
-    is_list: bool,
 ) -> Wrote
     requires { ⌜ Small w ⌝ }
-    ensures { λ r. ⌜ Places (innerAs (style (now («line_break» .entry)) (now (indentation .entry))) w (tokenOf «is_list» (now (atom .entry))) «is_list» newLine) w (now (buf .entry)) r (now (buf .exit)) ⌝ }
+    ensures { λ r. ⌜ Places (innerAs (style (now («line_break» .entry)) (now (indentation .entry))) w (now (atom .entry)) false newLine) w (now (buf .entry)) r (now (buf .exit)) ⌝ }
 {
     let position = w.position;
     let lists = w.lists;
     let size = indentation.len();
-    let token = token_len(atom, is_list);
-    match find_spot(position, buf.len(), line_break.len(), lists, size, token) {
+    match find_spot(
+        position,
+        buf.len(),
+        line_break.len(),
+        lists,
+        size,
+        atom.len(),
+    ) {
         Spot::At(at, end) => {
             write_line(buf, position, line_break, lists, indentation);
-            write_token(buf, at, atom, is_list);
-            let line = lists * size + token;
+            copy(buf, at, atom);
+            let line = lists * size + atom.len();
+            let spaces = w.spaces;
             let breaks = w.breaks + 1;
             let indents = w.indents + lists;
-            let spaces = w.spaces;
             return Wrote {
-                serializer: added(lists, is_list, lists, end, line, spaces, breaks, indents),
+                serializer: added(lists, lists, end, line, spaces, breaks, indents, false),
                 answer: Put::At(at),
             };
         }
@@ -389,33 +367,121 @@ fn on_new_line(
     }
 }
 
-// How many spaces stand before an item that stays in its line.
-fn spaces_before(list_beginning: bool) -> usize
-    ensures { λ r. ⌜ r ≡ length (gapBytes «list_beginning») ⌝ }
-{
-    if list_beginning { 0 } else { 1 }
-}
-
-// An item in the same line, behind a space unless it is the first of its list.
-fn in_line(w: Serializer, buf: &mut [u8], atom: &[u8], is_list: bool) -> Wrote
+// In the same line, behind a space unless it is the first of its list.
+fn atom_in_line(w: Serializer, buf: &mut [u8], atom: &[u8]) -> Wrote
     requires { ⌜ Small w ⌝ }
-    ensures { λ r. ⌜ Places (inLine w (tokenOf «is_list» (now (atom .entry))) «is_list» (gapBytes (w .«list_beginning»))) w (now (buf .entry)) r (now (buf .exit)) ⌝ }
+    ensures { λ r. ⌜ Places (inLine w (now (atom .entry)) false (gapBytes (w .«list_beginning»))) w (now (buf .entry)) r (now (buf .exit)) ⌝ }
 {
     let position = w.position;
-    let lists = w.lists;
-    let broken = w.broken;
     let lead = spaces_before(w.list_beginning);
-    let token = token_len(atom, is_list);
-    match find_spot(position, buf.len(), lead, 0, 0, token) {
+    match find_spot(position, buf.len(), lead, 0, 0, atom.len()) {
         Spot::At(at, end) => {
             write_gap(buf, position, w.list_beginning);
-            write_token(buf, at, atom, is_list);
-            let line = w.line_len + lead + token;
+            copy(buf, at, atom);
+            let line = w.line_len + lead + atom.len();
             let spaces = w.spaces + lead;
+            let lists = w.lists;
+            let broken = w.broken;
             let breaks = w.breaks;
             let indents = w.indents;
             return Wrote {
-                serializer: added(lists, is_list, broken, end, line, spaces, breaks, indents),
+                serializer: added(lists, broken, end, line, spaces, breaks, indents, false),
+                answer: Put::At(at),
+            };
+        }
+        Spot::NoRoom => return refused(w, Put::NoRoom),
+    }
+}
+
+// ---- begin_list
+
+pub(crate) fn open_list(
+    w: Serializer,
+    line_break: &[u8],
+    indentation: &[u8],
+    buf: &mut [u8],
+    break_line_at: u64,
+) -> Wrote
+    requires { ⌜ isSound w ≡ true ⌝ }
+    ensures { λ r. ⌜ Does (beginListCall «break_line_at») (style (now («line_break» .entry)) (now (indentation .entry))) w (now (buf .entry)) r (now (buf .exit)) ⌝ }
+{
+    let phase = w.phase;
+    match phase {
+        Phase::Beginning => return first_list(w, buf),
+        Phase::Writing => {
+            if break_line_at <= w.line_len as u64 {
+                return list_on_new_line(w, line_break, indentation, buf);
+            }
+            return list_in_line(w, buf);
+        }
+        Phase::Finished => return refused(w, Put::WritingFinished),
+        Phase::Done => return refused(w, Put::WritingFinished),
+    }
+}
+
+fn first_list(w: Serializer, buf: &mut [u8]) -> Wrote
+    ensures { λ r. ⌜ Places (firstList w) w (now (buf .entry)) r (now (buf .exit)) ⌝ }
+{
+    match find_spot(w.position, buf.len(), 0, 0, 0, 1) {
+        Spot::At(at, end) => {
+            buf[at] = 40;
+            let spaces = w.spaces;
+            let breaks = w.breaks;
+            let indents = w.indents;
+            return Wrote {
+                serializer: added(1, 0, end, 1, spaces, breaks, indents, true),
+                answer: Put::At(at),
+            };
+        }
+        Spot::NoRoom => return refused(w, Put::NoRoom),
+    }
+}
+
+// On a new line. Every list that is open has a break in it from then on, but not the new one.
+fn list_on_new_line(w: Serializer, line_break: &[u8], indentation: &[u8], buf: &mut [u8]) -> Wrote
+    requires { ⌜ Small w ⌝ }
+    ensures { λ r. ⌜ Places (innerAs (style (now («line_break» .entry)) (now (indentation .entry))) w (40 ∷ []) true newLine) w (now (buf .entry)) r (now (buf .exit)) ⌝ }
+{
+    let position = w.position;
+    let lists = w.lists;
+    let size = indentation.len();
+    match find_spot(position, buf.len(), line_break.len(), lists, size, 1) {
+        Spot::At(at, end) => {
+            write_line(buf, position, line_break, lists, indentation);
+            buf[at] = 40;
+            let line = lists * size + 1;
+            let spaces = w.spaces;
+            let breaks = w.breaks + 1;
+            let indents = w.indents + lists;
+            let open = lists + 1;
+            return Wrote {
+                serializer: added(open, lists, end, line, spaces, breaks, indents, true),
+                answer: Put::At(at),
+            };
+        }
+        Spot::NoRoom => return refused(w, Put::NoRoom),
+    }
+}
+
+// In the same line, behind a space unless it is the first of its list.
+fn list_in_line(w: Serializer, buf: &mut [u8]) -> Wrote
+    requires { ⌜ Small w ⌝ }
+    ensures { λ r. ⌜ Places (inLine w (40 ∷ []) true (gapBytes (w .«list_beginning»))) w (now (buf .entry)) r (now (buf .exit)) ⌝ }
+{
+    let position = w.position;
+    let lead = spaces_before(w.list_beginning);
+    match find_spot(position, buf.len(), lead, 0, 0, 1) {
+        Spot::At(at, end) => {
+            write_gap(buf, position, w.list_beginning);
+            buf[at] = 40;
+            let line = w.line_len + lead + 1;
+            let spaces = w.spaces + lead;
+            let open = w.lists + 1;
+            let broken = w.broken;
+            let breaks = w.breaks;
+            let indents = w.indents;
+            return Wrote {
+                serializer: added(open, broken, end, line, spaces, breaks, indents, true),
                 answer: Put::At(at),
             };
         }
@@ -436,7 +502,6 @@ pub fn phase_after(lists: usize) -> Phase
     }
 }
 
-// Ends the innermost list that is open.
 pub(crate) fn close_list(
     w: Serializer,
     line_break: &[u8],
@@ -526,7 +591,7 @@ fn close_in_line(w: Serializer, buf: &mut [u8]) -> Wrote
 
 // ---- finish
 
-// Finishes the text. `indentation` is unused: every call takes the same.
+// `indentation` is unused: every call takes the same.
 pub(crate) fn finish_text(
     w: Serializer,
     line_break: &[u8],

@@ -50,6 +50,15 @@ pub row-12 : (words : List ℕ) → parseTree (40 ∷ 41 ∷ []) (reader 1 Parsi
 unfolding parseTree parsed readNode readFrom readAnswer readStage turn close nextItem nextIn isSound tokenAt inBeginning inParsing between comment plain string escape classOf within
 row-12 words = refl
 
+-- request 2.7: `(` 0xE2 0x82 `(`: the reader is behind the broken character, in the list that was read before
+pub after-8 : (words : List ℕ) → parseTree (40 ∷ 0xE2 ∷ 0x82 ∷ 40 ∷ []) freshReader words ≡ record {
+  reader = reader 3 Parsing 1;
+  answer = refused (refusal 8 1 0);
+  words = words;
+}
+unfolding parseTree parsed readNode readFrom readAnswer readStage turn close nextItem nextIn isSound tokenAt inBeginning inParsing between wrong classOf character byRows forms follow within
+after-8 words = refl
+
 -- row 14: `a`, table of 3 words
 pub row-14 : (a b c : ℕ) → parseTree (97 ∷ []) freshReader (a ∷ b ∷ c ∷ []) ≡ record {
   reader = freshReader;

@@ -15,7 +15,6 @@ use Rattle.sise_parser.specs.Reader.{partOf}
 use Rattle.sise_serializer.specs.Bytes.{pasted}
 use Rattle.sise_serializer.specs.Serializer as writer
 use Rattle.sise_serializer.specs.Serializer.{Style, Piece, Written, listsFit, isSound, Gap, newLine, nothing, space, gapAt, newLineOf, laid, firstAtom, firstList, inner, innerAs, close, closeAs, last}
-use Rattle.sise_serializer.specs.Parts.{itemCall}
 use Rattle.sise_serializer.specs.declared.serializer.Phase.{Phase}
 use Rattle.sise_serializer.specs.declared.serializer.Phase.the-variants.{Beginning}
 use Rattle.sise_serializer.specs.declared.serializer.Serializer.{Serializer}
@@ -25,7 +24,7 @@ use Rattle.sise_serializer.proofs.Kept.{sound-kept}
 use Rattle.sise_serializer.proofs.Verdicts.{Puts, atomAlone, atomInside, listFirst, listInside, listClosed, textEnded, Verdict, refuses, puts, verdict}
 use Rattle.sise_layout.proofs.Buffers.{pasted-length}
 use Rattle.sise_tree_writer.specs.SerializeTree.{fits}
-use Rattle.sise_tree_writer.specs.Planning.{turnCall, turnLayout, turnToken}
+use Rattle.sise_tree_writer.specs.Planning.{itemCall, turnCall, turnLayout, turnToken}
 use Rattle.sise_tree_writer.specs.Walking.{writtenIf, after, firstAnswer}
 
 -- a refusal is no acceptance

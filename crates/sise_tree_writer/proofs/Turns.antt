@@ -11,14 +11,13 @@ use lib.ListN.{length}
 use borrow.Author.Tests.{eqb-true, eqb-false, eq-eqb, ne-eqb, lt-ltb, le-ltb}
 use Rattle.sise_util.proofs.Ranges.{split}
 use Rattle.sise_parser.specs.Reader.{partOf}
-use Rattle.sise_serializer.specs.Parts.{itemCall}
 use Rattle.sise_serializer.specs.Calls.{largest, Call, putAtomCall, beginListCall, endListCall}
 use Rattle.sise_tree.specs.Tree.{Node, atom, list, Nodes, empty, _then_, size, sizes, tableAt, kind, first, second, span}
 use Rattle.sise_tree.proofs.TreeLaws.{size-pos, holds-words}
 use Rattle.sise_tree.proofs.LocalLaws.{stands, Held}
 use Rattle.sise_tree.proofs.WalkLaws.{Rest, Around, Walk, walk-root, walk-atom, walk-list, walk-close, walk-ends, walk-within}
 use Rattle.sise_tree_writer.specs.SerializeTree.{nodeCalls, rowCalls, treeCalls}
-use Rattle.sise_tree_writer.specs.Planning.{turnCall}
+use Rattle.sise_tree_writer.specs.Planning.{itemCall, turnCall}
 use Rattle.sise_tree_writer.specs.Walking.{opensAt, atomAt, Passable, passed}
 
 -- ---- the calls left

@@ -17,7 +17,6 @@ use Rattle.sise_parser.specs.Reader.{partOf}
 use Rattle.sise_serializer.specs.Serializer as writer
 use Rattle.sise_serializer.specs.Serializer.{Style, answerAs, isSound}
 use Rattle.sise_serializer.specs.Calls.{largest, Call, putAtomCall, beginListCall, endListCall, step, run}
-use Rattle.sise_serializer.specs.Parts.{itemCall}
 use Rattle.sise_serializer.specs.declared.serializer.Serializer.{Serializer}
 use Rattle.sise_serializer.specs.declared.serializer.Put.{Put}
 use Rattle.sise_serializer.specs.declared.serializer.Put.the-variants as put
@@ -30,7 +29,7 @@ use Rattle.sise_tree.specs.Decision.{decide}
 use Rattle.sise_tree.proofs.LocalLaws.{held, holds-here}
 use Rattle.sise_tree_writer.specs.SerializeTree.{treeCalls, fits}
 use Rattle.sise_tree_writer.specs.Writing.{Checked}
-use Rattle.sise_tree_writer.specs.Planning.{Plans, turnCall, turnLayout, turnToken}
+use Rattle.sise_tree_writer.specs.Planning.{Plans, itemCall, turnCall, turnLayout, turnToken}
 use Rattle.sise_tree_writer.specs.Walking.{opensAt, atomAt, AtomIn, Writable, writtenIf, Passable, passed, after, firstAnswer, Finds, all, off, Walkable, Walks}
 use Rattle.sise_tree_writer.specs.declared.walk.Walked.{Walked}
 use Rattle.sise_tree_writer.specs.declared.walk.Walked.the-variants.{Fits, Refused}

@@ -5,9 +5,8 @@ use mathlib.Core.Path.{_≡_}
 use mathlib.Core.Bool.{Bool, cond}
 use mathlib.Core.List.{List, [], _∷_}
 use lib.Dec.{ltb}
-use Rattle.sise_serializer.specs.Serializer.{Style, Written, answerAs, newLineOf}
-use Rattle.sise_serializer.specs.Calls.{Call, endListCall, step}
-use Rattle.sise_serializer.specs.Parts.{tokenOf, itemCall}
+use Rattle.sise_serializer.specs.Serializer.{Style, Written, answerAs, Piece, firstAtom, firstList, newLineOf}
+use Rattle.sise_serializer.specs.Calls.{Call, putAtomCall, beginListCall, endListCall, step}
 use Rattle.sise_serializer.specs.declared.serializer.Serializer.{Serializer}
 use Rattle.sise_serializer.specs.declared.serializer.Wrote.{Wrote}
 
@@ -19,6 +18,18 @@ pub record PlansAs (d : Written) (r : Wrote) : Type 0 where
 -- those of a call in a buffer of room bytes
 abbrev pub Plans : Call → Style → ℕ → Serializer → Wrote → Type 0
 Plans c s room w r = PlansAs (step s room w c) r
+
+-- an item's token: a `(`, or the atom a
+abbrev pub tokenOf : Bool → List ℕ → List ℕ
+tokenOf isList a = cond isList (40 ∷ []) a
+
+-- an item before all others
+abbrev pub firstItem : Serializer → List ℕ → Bool → Piece
+firstItem w a isList = cond isList (firstList w) (firstAtom w a)
+
+-- begin_list, or put_atom of the atom a
+unfoldable pub itemCall : List ℕ → Bool → ℕ → Call
+itemCall a isList t = cond isList (beginListCall t) (putAtomCall a t)
 
 -- the call of a turn of a walk: the end of the innermost list, or an item's at the threshold t
 unfoldable pub turnCall : Bool → List ℕ → Bool → ℕ → Call

@@ -7,17 +7,16 @@ use sise_serializer::Spot;
 use sise_serializer::Wrote;
 use sise_serializer::find_spot;
 use sise_serializer::phase_after;
-use sise_serializer::token_len;
 ghost use mathlib.Core.Path.{_≡_};
 ghost use mathlib.Core.Bool.{true, false, _||_, cond};
 ghost use mathlib.Core.List.{[]};
-ghost use Prim.Native.Nat.{_≤_, _<_};
+ghost use Prim.Native.Nat.{_+_, _≤_, _<_};
 ghost use lib.ListN.{length};
 ghost use Rattle.sise_util.specs.Atom.{isAtom};
 ghost use Rattle.sise_serializer.specs.Serializer.{limit, style, isSound, place, newLine, innerAs, closeAs, last};
-ghost use Rattle.sise_serializer.specs.Parts.{Small, itemCall, addedWith, inLine, tokenOf, gapBytes, breakBytes, firstItem};
+ghost use Rattle.sise_serializer.specs.Parts.{Small, addedWith, inLine, gapBytes, breakBytes};
 ghost use Rattle.sise_serializer.specs.Calls.{endListCall, finishCall};
-ghost use Rattle.sise_tree_writer.specs.Planning.{PlansAs, Plans, turnCall};
+ghost use Rattle.sise_tree_writer.specs.Planning.{PlansAs, Plans, tokenOf, firstItem, itemCall, turnCall};
 
 fn refused(w: Serializer, answer: Put) -> Wrote
     ensures { λ r. ⌜ r ≡ record { serializer = w; answer = answer } ⌝ }
@@ -26,6 +25,13 @@ fn refused(w: Serializer, answer: Put) -> Wrote
         serializer: w,
         answer,
     }
+}
+
+// The bytes of an item's token: a parenthesis, or the atom.
+fn token_len(atom: &[u8], is_list: bool) -> usize
+    ensures { λ r. ⌜ r ≡ length (tokenOf «is_list» (now (atom .entry))) ⌝ }
+{
+    if is_list { 1 } else { atom.len() }
 }
 
 // The first item of a text.
@@ -82,7 +88,7 @@ fn added(
     indents: usize,
 ) -> Serializer
     requires { ⌜ lists ≤ limit ⌝ }
-    ensures { λ r. ⌜ r ≡ addedWith lists «is_list» broken position «line_len» spaces breaks indents ⌝ }
+    ensures { λ r. ⌜ r ≡ addedWith (cond «is_list» (lists + 1) lists) broken position «line_len» spaces breaks indents «is_list» ⌝ }
 {
     let mut open = lists;
     if is_list {

@@ -1,19 +1,19 @@
 -- The definition of a character is RFC 3629's: it is well formed exactly if it matches a row of section 4; its code point is a scalar value, and
--- each scalar value has exactly one byte string, section 3's.
+-- each scalar value has exactly one byte string, section 3's. Where none is well formed, the bytes counted are the longest start of one, at least one byte.
 -- Assumes nothing.
 use mathlib.Core.Path.{_≡_, refl, sym, ap, ap₂, _∙_, subst}
 use mathlib.Core.Bool.{Bool, true, false, _&&_, true≢false}
 use mathlib.Core.Logic.{_↔_, _⊎_, inl, inr}
 use mathlib.Core.List.{List, [], _∷_, _++_, List·Memᴰ, List·Memᴰ·head, List·Memᴰ·tail, append-nil}
 use Prim.Native.Nat.{ℕ, zero, suc, _+_, _-_, _*_, _/_, _%_, _≤_, _<_, zero-le}
-use native.Mathlib.Nat.{sub-zero, not-suc-le-zero, le-of-suc-le-suc}
+use native.Mathlib.Nat.{le-refl, sub-zero, not-suc-le-zero, le-of-suc-le-suc}
 use native.Mathlib.Omega.{arith}
 use lib.Dec.{T, leb, ltb, leb→le, lit<}
 use lib.ListN.{length, take, drop, getD, length-append, take-append-drop}
-use lib.Seq.{take-at, take-length, drop-at, drop-append-seam}
+use lib.Seq.{take-at, take-length, length-take-le, drop-at, drop-append-seam}
 use borrow.Author.Tests.{lt-ltb, le-ltb, ltb-true, ltb-false}
 use Rattle.sise_util.specs.Chars.{within}
-use Rattle.sise_util.specs.Utf8.{Range, range, tail, Form, form, forms, Fits, done, octet, Utf8Char, Utf8Octets, none, next, follow, byRows, character, octetsOf, Scalar}
+use Rattle.sise_util.specs.Utf8.{Range, range, tail, Form, form, forms, Fits, done, octet, Utf8Char, Utf8Octets, none, next, Starts, Subpart, follow, byRows, character, octetsOf, Scalar}
 use Rattle.sise_util.specs.declared.utf8.Character.{Character}
 use Rattle.sise_util.specs.declared.utf8.Character.the-variants.{Well, Ill}
 use Rattle.sise_util.proofs.Ranges.{split, and-left, and-right}
@@ -109,14 +109,14 @@ record Read (rs : List Range) (c n : ℕ) (l : List ℕ) (d k : ℕ) : Type 0 wh
   code : d ≡ bitsOf c octets
   count : k ≡ n
 
-pub ill≢well : {d k : ℕ} → Ill ≡ Well d k → ⊥
+pub ill≢well : {j d k : ℕ} → Ill j ≡ Well d k → ⊥
 ill≢well e = let z : _≡_ {A = ℕ} 0 1 = cc in omega arith
 
 follow-hit : (r : Range) (rs : List Range) (c n b : ℕ) (l : List ℕ) → within (r .lo) (r .hi) b ≡ true → follow c n (r ∷ rs) (b ∷ l) ≡ follow (c * 64 + (b - 0x80)) n rs l
 unfolding follow
 follow-hit r rs c n b l w = rw (w, follow)
 
-follow-miss : (r : Range) (rs : List Range) (c n b : ℕ) (l : List ℕ) → within (r .lo) (r .hi) b ≡ false → follow c n (r ∷ rs) (b ∷ l) ≡ Ill
+follow-miss : (r : Range) (rs : List Range) (c n b : ℕ) (l : List ℕ) → within (r .lo) (r .hi) b ≡ false → follow c n (r ∷ rs) (b ∷ l) ≡ Ill (n - suc (length rs))
 unfolding follow
 follow-miss r rs c n b l w = rw (w, follow)
 
@@ -176,7 +176,8 @@ here f fs b l {d} {k} w x =
 
 found-in : (fs : List Form) (l : List ℕ) {d k : ℕ} → byRows fs l ≡ Well d k → Found fs l d k
 unfolding byRows
-found-in [] l e = absurd (ill≢well e)
+found-in [] [] e = absurd (ill≢well e)
+found-in [] (b ∷ l) e = absurd (ill≢well e)
 found-in (f ∷ fs) [] e = absurd (ill≢well e)
 found-in (f ∷ fs) (b ∷ l) e =
     split (within (f .first .lo) (f .first .hi) b)
@@ -220,15 +221,164 @@ well-formed s = (
 )
 
 -- no character is well formed exactly where no prefix of the bytes matches a row
-pub ill-formed : (l : List ℕ) → (character l ≡ Ill) ↔ ((k : ℕ) → Utf8Char (take k l) → ⊥)
-ill-formed l = (λ e k u. ill≢well (sym e ∙ ap character (sym (take-append-drop k l)) ∙ reads-char u (drop k l)), λ h. go h (character l) refl)
+pub ill-formed : (l : List ℕ) → ((n : ℕ) × (character l ≡ Ill n)) ↔ ((k : ℕ) → Utf8Char (take k l) → ⊥)
+ill-formed l = (λ w k u. ill≢well (sym (w .1) ∙ ap character (sym (take-append-drop k l)) ∙ reads-char u (drop k l)), λ h. go h (character l) refl)
   where
-    go : ((k : ℕ) → Utf8Char (take k l) → ⊥) → (c : Character) → character l ≡ c → character l ≡ Ill
+    go : ((k : ℕ) → Utf8Char (take k l) → ⊥) → (c : Character) → character l ≡ c → (n : ℕ) × (character l ≡ Ill n)
     go h (Well c k) e =
         let x = found l e in
         let s : take k l ≡ x .octets = ap (take k) (x .parts) ∙ take-at (x .octets) (x .left) k (sym (x .count)) in
         absurd (h k (subst Utf8Char (sym s) (record { row = x .row; listed = x .listed; fits = x .fits })))
-    go h Ill e = e
+    go h (Ill n) e = (n, e)
+
+-- what is ill formed: how many bytes stand for the broken character
+
+-- bytes that fit the ranges rs only in part, behind m octets: those that fit, and octets that would be due in place of what is left
+record Broken (rs : List Range) (l : List ℕ) (m k : ℕ) : Type 0 where
+  octets : List ℕ
+  left : List ℕ
+  due : List ℕ
+  parts : l ≡ octets ++ left
+  fits : Fits rs (octets ++ due)
+  count : k ≡ m + length octets
+
+-- each range has an octet
+abbrev filled : List Range → Bool
+filled [] = true
+filled (r ∷ rs) = leb (r .lo) (r .hi) && filled rs
+
+abbrev lows : List Range → List ℕ
+lows [] = []
+lows (r ∷ rs) = r .lo ∷ lows rs
+
+lows-fit : (rs : List Range) → T (filled rs) → Fits rs (lows rs)
+lows-fit [] t = done
+lows-fit (r ∷ rs) t = octet (le-refl (r .lo)) (leb→le (r .lo) (r .hi) (and-left (leb (r .lo) (r .hi)) (filled rs) t)) (lows-fit rs (and-right (leb (r .lo) (r .hi)) (filled rs) t))
+
+broken-here : (r : Range) (rs : List Range) (l : List ℕ) (m n k : ℕ) → T (filled (r ∷ rs)) → n ≡ m + suc (length rs) → Ill (n - suc (length rs)) ≡ Ill k → Broken (r ∷ rs) l m k
+broken-here r rs l m n k t h e =
+    let z : n - suc (length rs) ≡ k = cc in
+    record { octets = []; left = l; due = lows (r ∷ rs); parts = refl; fits = lows-fit (r ∷ rs) t; count = omega arith }
+
+broken-next : (r : Range) {rs : List Range} (b : ℕ) {l : List ℕ} {m k : ℕ} → within (r .lo) (r .hi) b ≡ true → Broken rs l (suc m) k → Broken (r ∷ rs) (b ∷ l) m k
+broken-next r b {m = m} {k} w x =
+    record {
+      octets = b ∷ x .octets;
+      left = x .left;
+      due = x .due;
+      parts = ap (λ (s : List ℕ). b ∷ s) (x .parts);
+      fits = octet (within-from (r .lo) (r .hi) b w) (within-to (r .lo) (r .hi) b w) (x .fits);
+      count = longer (x .count);
+    }
+  where
+    longer : k ≡ suc m + length (x .octets) → k ≡ m + suc (length (x .octets))
+    longer e = omega arith
+
+follow-broken : (rs : List Range) (c n : ℕ) (l : List ℕ) {m k : ℕ} → T (filled rs) → n ≡ m + length rs → follow c n rs l ≡ Ill k → Broken rs l m k
+unfolding follow
+follow-broken [] c n l t h e = absurd (ill≢well (sym e))
+follow-broken (r ∷ rs) c n [] {m} {k} t h e = broken-here r rs [] m n k t h e
+follow-broken (r ∷ rs) c n (b ∷ l) {m} {k} t h e =
+    split (within (r .lo) (r .hi) b)
+    (λ w. broken-next r b w (follow-broken rs (c * 64 + (b - 0x80)) n l (and-right (leb (r .lo) (r .hi)) (filled rs) t) (omega arith) (sym (follow-hit r rs c n b l w) ∙ e)))
+    (λ w. broken-here r rs (b ∷ l) m n k t h (sym (follow-miss r rs c n b l w) ∙ e))
+
+-- what is broken stays so, whatever follows the octet that does not fit
+follow-stays : (rs : List Range) (c n m : ℕ) (p q : List ℕ) {k : ℕ} → T (filled rs) → n ≡ m + length rs → follow c n rs (p ++ q) ≡ Ill k → k < m + length p → (t : List ℕ)
+    → follow c n rs (p ++ t) ≡ Ill k
+unfolding follow
+follow-stays [] c n m p q t h e d u = absurd (ill≢well (sym e))
+follow-stays (r ∷ rs) c n m [] q {k} t h e d u = let z : k ≡ m + length (x .octets) = x .count in absurd (omega arith)
+  where
+    x : Broken (r ∷ rs) q m k
+    x = follow-broken (r ∷ rs) c n q t h e
+follow-stays (r ∷ rs) c n m (b ∷ p) q t h e d u =
+    split (within (r .lo) (r .hi) b)
+    (λ w.
+    follow-hit r rs c n b (p ++ u) w
+    ∙ follow-stays rs (c * 64 + (b - 0x80)) n (suc m) p q (and-right (leb (r .lo) (r .hi)) (filled rs) t) (omega arith) (sym (follow-hit r rs c n b (p ++ q) w) ∙ e) (omega arith) u)
+    (λ w. follow-miss r rs c n b (p ++ u) w ∙ sym (follow-miss r rs c n b (p ++ q) w) ∙ e)
+
+-- a row's first octet and octets that are broken, or an octet of no row
+data BrokenIn (fs : List Form) (b : ℕ) (l : List ℕ) (k : ℕ) : Type 0 where
+  lone : k ≡ 1 → BrokenIn fs b l k
+  cut : (f : Form) → List·Memᴰ f fs → Begins b f → Broken (f .rest) l 1 k → BrokenIn fs b l k
+
+abbrev allFilled : List Form → Bool
+allFilled [] = true
+allFilled (f ∷ fs) = filled (f .rest) && allFilled fs
+
+broken-later : {f : Form} {fs : List Form} {b : ℕ} {l : List ℕ} {k : ℕ} → BrokenIn fs b l k → BrokenIn (f ∷ fs) b l k
+broken-later (lone e) = lone e
+broken-later (cut g i j x) = cut g (List·Memᴰ·tail i) j x
+
+broken-in : (fs : List Form) (b : ℕ) (l : List ℕ) {k : ℕ} → T (allFilled fs) → byRows fs (b ∷ l) ≡ Ill k → BrokenIn fs b l k
+unfolding byRows
+broken-in [] b l t e = lone cc
+broken-in (f ∷ fs) b l t e =
+    split (within (f .first .lo) (f .first .hi) b)
+    (λ w.
+    let i : Begins b f = (within-from (f .first .lo) (f .first .hi) b w, within-to (f .first .lo) (f .first .hi) b w) in
+    cut f (List·Memᴰ·head refl) i
+    (follow-broken (f .rest) (b - f .mark) (1 + length (f .rest)) l (and-left (filled (f .rest)) (allFilled fs) t) refl (sym (row-taken f fs b l i) ∙ e)))
+    (λ w. broken-later (broken-in fs b l (and-right (filled (f .rest)) (allFilled fs) t) (sym (row-passed f fs b l (λ h k. true≢false (sym (within-yes (f .first .lo) (f .first .hi) b h k) ∙ w))) ∙ e)))
+
+rows-stay : (fs : List Form) (b : ℕ) (p q : List ℕ) {k : ℕ} → T (allFilled fs) → byRows fs (b ∷ p ++ q) ≡ Ill k → k < suc (length p) → (u : List ℕ) → byRows fs (b ∷ p ++ u) ≡ Ill k
+unfolding byRows
+rows-stay [] b p q t e d u = e
+rows-stay (f ∷ fs) b p q t e d u =
+    split (within (f .first .lo) (f .first .hi) b)
+    (λ w.
+    let i : Begins b f = (within-from (f .first .lo) (f .first .hi) b w, within-to (f .first .lo) (f .first .hi) b w) in
+    row-taken f fs b (p ++ u) i
+    ∙ follow-stays (f .rest) (b - f .mark) (1 + length (f .rest)) 1 p q (and-left (filled (f .rest)) (allFilled fs) t) refl (sym (row-taken f fs b (p ++ q) i) ∙ e) (omega arith) u)
+    (λ w.
+    let o : f .first .lo ≤ b → b ≤ f .first .hi → ⊥ = λ h k. true≢false (sym (within-yes (f .first .lo) (f .first .hi) b h k) ∙ w) in
+    row-passed f fs b (p ++ u) o ∙ rows-stay fs b p q (and-right (filled (f .rest)) (allFilled fs) t) (sym (row-passed f fs b (p ++ q) o) ∙ e) d u)
+
+-- the bytes that stand for a broken character are the longest start of a character found there, at least one byte
+pub broken-subpart : (b : ℕ) (l : List ℕ) {k : ℕ} → character (b ∷ l) ≡ Ill k → Subpart (b ∷ l) k
+unfolding character forms
+broken-subpart b l {k} e = go (broken-in forms b l tt e)
+  where
+    longest : (j : ℕ) → k < j → j ≤ suc (length l) → Starts (take j (b ∷ l)) → ⊥
+    longest zero h i u = omega arith
+    longest (suc j) h i (t, u) =
+        let n : length (take j l) ≡ j = length-take-le j l (le-of-suc-le-suc i) in
+        ill≢well
+        (sym (rows-stay forms b (take j l) (drop j l) tt (ap (λ (s : List ℕ). byRows forms (b ∷ s)) (take-append-drop j l) ∙ e) (omega arith) t)
+        ∙ ap character (sym (append-nil (b ∷ take j l ++ t)))
+        ∙ reads-char u [])
+
+    go : BrokenIn forms b l k → Subpart (b ∷ l) k
+    go (lone h) = record { some = omega arith; inside = omega arith; starts = inl h; longest = longest }
+    go (cut f i j x) =
+        let n : k ≡ 1 + length (x .octets) = x .count in
+        let m : length l ≡ length (x .octets) + length (x .left) = ap length (x .parts) ∙ length-append (x .octets) (x .left) in
+        let s : take k (b ∷ l) ≡ b ∷ x .octets = ap (λ (u : List ℕ). take k (b ∷ u)) (x .parts) ∙ take-at (b ∷ x .octets) (x .left) k (omega arith) in
+        record {
+          some = omega arith;
+          inside = omega arith;
+          starts = inr (subst Starts (sym s) (x .due, record { row = f; listed = i; fits = octet (j .0) (j .1) (x .fits) }));
+          longest = longest;
+        }
+
+-- and they never pass the end
+pub broken-fits : (l : List ℕ) {k : ℕ} → character l ≡ Ill k → k ≤ length l
+unfolding character byRows forms
+broken-fits [] {k} e = let z : 0 ≡ k = cc in omega arith
+broken-fits (b ∷ l) e = broken-subpart b l e .inside
+
+-- there is one such number
+pub one-subpart : {l : List ℕ} {j k : ℕ} → Subpart l j → Subpart l k → j ≡ k
+one-subpart {l} {j} {k} x y = split (ltb j k) (λ e. absurd (less x y (ltb-true j k e))) (λ e. split (ltb k j) (λ d. absurd (less y x (ltb-true k j d))) (λ d. omega (arith, ltb-false j k e, ltb-false k j d)))
+  where
+    less : {m n : ℕ} → Subpart l m → Subpart l n → m < n → ⊥
+    less {m} {n} u v h = go (v .starts)
+      where
+        go : (n ≡ 1) ⊎ Starts (take n l) → ⊥
+        go (inl e) = let z : 1 ≤ m = u .some in omega arith
+        go (inr t) = u .longest n h (v .inside) t
 
 -- the octets of a code point, by its size
 

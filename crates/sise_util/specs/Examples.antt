@@ -118,7 +118,8 @@ row-borders : map character (
 unfolding character byRows forms follow within
 row-borders = refl
 
--- the byte strings just outside them: 0xC0 0x80, surrogates, past U+10FFFF; nothing; and characters that are cut off
+-- the byte strings just outside them: 0xC0 0x80, surrogates, past U+10FFFF; nothing; and characters that are cut off. The numbers are of the bytes
+-- that stand for a broken character
 ill-formed : map character (
     (0x80 ∷ []) ∷
     (0xBF ∷ []) ∷
@@ -147,6 +148,21 @@ ill-formed : map character (
     (0xC2 ∷ []) ∷
     (0xE1 ∷ 0x80 ∷ []) ∷
     (0xF1 ∷ 0x80 ∷ 0x80 ∷ []) ∷
-    []) ≡ Ill ∷ Ill ∷ Ill ∷ Ill ∷ Ill ∷ Ill ∷ Ill ∷ Ill ∷ Ill ∷ Ill ∷ Ill ∷ Ill ∷ Ill ∷ Ill ∷ Ill ∷ Ill ∷ Ill ∷ Ill ∷ Ill ∷ Ill ∷ Ill ∷ Ill ∷ Ill ∷ Ill ∷ Ill ∷ Ill ∷ Ill ∷ []
+    []) ≡ map Ill (1 ∷ 1 ∷ 1 ∷ 1 ∷ 1 ∷ 1 ∷ 1 ∷ 1 ∷ 1 ∷ 2 ∷ 1 ∷ 1 ∷ 1 ∷ 2 ∷ 1 ∷ 1 ∷ 1 ∷ 2 ∷ 2 ∷ 1 ∷ 1 ∷ 1 ∷ 1 ∷ 0 ∷ 1 ∷ 2 ∷ 3 ∷ [])
 unfolding character byRows forms follow within
 ill-formed = refl
+
+-- request 2.7: its two examples; then 0xE0 0x80, 0xED 0xA0 and 0xF4 0x90, whose second byte fits no row; three of four bytes, before `A` and at the end;
+-- and a lead at the end
+subparts : map character (
+    (0xE2 ∷ 0x82 ∷ 0x28 ∷ []) ∷
+    (0xC0 ∷ 0xAF ∷ []) ∷
+    (0xE0 ∷ 0x80 ∷ []) ∷
+    (0xED ∷ 0xA0 ∷ []) ∷
+    (0xF4 ∷ 0x90 ∷ []) ∷
+    (0xF1 ∷ 0x80 ∷ 0x80 ∷ 0x41 ∷ []) ∷
+    (0xF0 ∷ 0x90 ∷ 0x80 ∷ []) ∷
+    (0xC3 ∷ []) ∷
+    []) ≡ map Ill (2 ∷ 1 ∷ 1 ∷ 1 ∷ 1 ∷ 3 ∷ 3 ∷ 1 ∷ [])
+unfolding character byRows forms follow within
+subparts = refl

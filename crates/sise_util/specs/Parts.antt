@@ -1,10 +1,11 @@
--- What the private functions of the check of an atom do.
+-- What the private functions of the check of an atom and of a character do.
 -- Assumes nothing.
-use Prim.Native.Nat.{ℕ}
+use mathlib.Core.Path.{_≡_}
+use Prim.Native.Nat.{ℕ, _<_}
 use mathlib.Core.Bool.{Bool, false, cond}
 use mathlib.Core.List.{List}
 use lib.Dec.{eqb, ltb}
-use lib.ListN.{drop}
+use lib.ListN.{length, drop, getD}
 use Rattle.sise_util.specs.Atom.{outside}
 
 -- what the test says of the bytes behind a string that ends before place r, where 0 stands for no string
@@ -14,3 +15,13 @@ afterString s r = cond (eqb r 0) false (outside (drop r s))
 -- 64 bits, one for each byte up to 63, from 64 to 127, or above: whether it is an atom character
 unfoldable pub maskOf : ℕ → ℕ
 maskOf b = cond (ltb b 64) 0xF7FFEC7A00000000 (cond (ltb b 128) 0x47FFFFFE87FFFFFF 0)
+
+-- the octet at a place of a text; past its end 0, which is no second and no later octet of a character
+pub record OctetAt (text : List ℕ) (at o : ℕ) : Type 0 where
+  pub stands : o ≡ getD text at 0
+
+-- some bytes begin with these two octets
+pub record FirstTwo (l : List ℕ) (lead second : ℕ) : Type 0 where
+  pub some : 0 < length l
+  pub first : OctetAt l 0 lead
+  pub next : OctetAt l 1 second

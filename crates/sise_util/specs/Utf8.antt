@@ -1,10 +1,12 @@
--- A character by RFC 3629: the syntax of its octets (section 4), its code point (section 3), and valid UTF-8.
+-- A character by RFC 3629: the syntax of its octets (section 4), its code point (section 3), and valid UTF-8; and how many bytes a broken one has.
 -- Assumes nothing.
 use Prim.Native.Nat.{ℕ, _+_, _-_, _*_, _/_, _%_, _≤_, _<_}
+use mathlib.Core.Path.{_≡_}
+use mathlib.Core.Logic.{_⊎_}
 use mathlib.Core.Bool.{true, false, cond}
 use mathlib.Core.List.{List, [], _∷_, _++_, List·Memᴰ}
 use lib.Dec.{ltb}
-use lib.ListN.{length}
+use lib.ListN.{length, take}
 use Rattle.sise_util.specs.Chars.{within}
 use Rattle.sise_util.specs.declared.utf8.Character.{Character}
 use Rattle.sise_util.specs.declared.utf8.Character.the-variants.{Well, Ill}
@@ -59,28 +61,42 @@ pub data Utf8Octets : List ℕ → Type 0 where
   none : Utf8Octets []
   next : {s l : List ℕ} → Utf8Char s → Utf8Octets l → Utf8Octets (s ++ l)
 
+-- s is a start of a well-formed character
+abbrev pub Starts : List ℕ → Type 0
+Starts s = (t : List ℕ) × Utf8Char (s ++ t)
+
+-- "the longest start of a well-formed character found there, at least one byte" (02, 2.7) has k bytes: the maximal subpart of the Unicode Standard
+pub record Subpart (l : List ℕ) (k : ℕ) : Type 0 where
+  pub some : 1 ≤ k
+  pub inside : k ≤ length l
+  -- a start, or the one byte where there is none
+  pub starts : (k ≡ 1) ⊎ Starts (take k l)
+  pub longest : (j : ℕ) → k < j → j ≤ length l → Starts (take j l) → ⊥
+
 -- the octets after the first: each in its range, with six more bits of the code point (section 3); c is what the octets before have of it, and n
--- the number of all octets
+-- the number of all octets. Where one is missing or out of its range, those before it are the start of a character: all n but the ones still due
 unfoldable pub follow : ℕ → ℕ → List Range → List ℕ → Character
 follow c n [] l = Well c n
-follow c n (r ∷ rs) [] = Ill
+follow c n (r ∷ rs) [] = Ill (n - length (r ∷ rs))
 follow c n (r ∷ rs) (b ∷ l) =
     elim (within (r .lo) (r .hi) b) [
       | true ↦ follow (c * 64 + (b - 0x80)) n rs l
-      | false ↦ Ill
+      | false ↦ Ill (n - length (r ∷ rs))
     ]
 
--- the row in whose first range the first octet is
+-- the row in whose first range the first octet is; an octet that begins no row is one byte (02, 2.7: "at least one byte"), and at the end there is none
 unfoldable pub byRows : List Form → List ℕ → Character
-byRows [] l = Ill
-byRows (f ∷ fs) [] = Ill
+byRows [] [] = Ill 0
+byRows [] (b ∷ l) = Ill 1
+byRows (f ∷ fs) [] = Ill 0
 byRows (f ∷ fs) (b ∷ l) =
     elim (within (f .first .lo) (f .first .hi) b) [
       | true ↦ follow (b - f .mark) (1 + length (f .rest)) (f .rest) l
       | false ↦ byRows fs (b ∷ l)
     ]
 
--- the character that the bytes begin with: its code point and its number of bytes, or none that is well formed
+-- the character that the bytes begin with: its code point and its number of bytes; or none that is well formed, and the number of bytes that stand
+-- for one that is broken
 unfoldable pub character : List ℕ → Character
 character l = byRows forms l
 

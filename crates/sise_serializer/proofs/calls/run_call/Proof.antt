@@ -1,7 +1,6 @@
 -- Each branch is the call that its kind means, on the bytes that the words name.
 -- Assumes nothing.
-use native.Mathlib.Omega.{arith}
-use Rattle.sise_serializer.proofs.Running.{call-item, call-end, call-finish}
+use Rattle.sise_serializer.proofs.Running.{call-atom, call-begin, call-end, call-finish}
 use borrow.Author.Needs.{needs}
 use Rattle.sise_serializer.proofs.calls.run_call.Statement.{statement}
 use Rattle.sise_serializer.proofs.calls.run_call.Tie as tie
@@ -22,16 +21,15 @@ run-call-spec =
     (λ c. search needs)  -- mul-threshold
     (λ c. search needs)  -- shared-slice-read-threshold
     (λ c κs. search needs)  -- atom-bytes-requires
-    (λ c κs. search needs)  -- put-item-requires
+    (λ c κs. search needs)  -- write-atom-requires
     (λ c. search needs)  -- same-length
-    (λ c. let a = c .before .before .before .before .before .before .before .before .before .before .before .before .before .before .before .args in rw (call-item (a .words .now) (a .atoms .now) (a .at) (c .before .before .before .before .before .if1 .taken), ← c .before .before .before .before .atom-bytes .ensures) (c .before .before .put-item .ensures))  -- returns
-    (λ c κs. search needs)  -- close-list-requires
+    (λ c. let a = c .before .before .before .before .before .before .before .before .before .before .before .before .before .before .before .args in rw (call-atom (a .words .now) (a .atoms .now) (a .at) (c .before .before .before .before .before .if1 .taken), ← c .before .before .before .before .atom-bytes .ensures) (c .before .before .write-atom .ensures))  -- returns
+    (λ c κs. search needs)  -- open-list-requires
     (λ c. search needs)  -- same-length-2
-    (λ c. let a = c .before .before .before .before .before .before .before .before .before .before .before .before .before .before .before .args in
-    let past = c .before .before .before .before .before .if1 .left in
-    rw (call-end (a .words .now) (a .atoms .now) (a .at) (λ z. absurd (omega arith)) (λ z. absurd (omega arith)) (c .before .before .before .before .if2 .taken)) (c .before .before .close-list .ensures))  -- returns-2
-    (λ c κs. search needs)  -- finish-text-requires
+    (λ c. let a = c .before .before .before .before .before .before .before .before .before .before .before .before .before .before .before .args in rw (call-begin (a .words .now) (a .atoms .now) (a .at) (c .before .before .before .before .before .if1 .left) (c .before .before .before .before .if2 .taken)) (c .before .before .open-list .ensures))  -- returns-2
+    (λ c κs. search needs)  -- close-list-requires
     (λ c. search needs)  -- same-length-3
-    (λ c. let a = c .before .before .before .before .before .before .before .before .before .before .before .before .before .before .before .args in
-    let past = c .before .before .before .before .before .if1 .left in
-    rw (call-finish (a .words .now) (a .atoms .now) (a .at) (λ z. absurd (omega arith)) (λ z. absurd (omega arith)) (c .before .before .before .before .if2 .left)) (c .before .before .finish-text .ensures)))  -- returns-3
+    (λ c. let a = c .before .before .before .before .before .before .before .before .before .before .before .before .before .before .before .before .args in rw (call-end (a .words .now) (a .atoms .now) (a .at) (c .before .before .before .before .before .before .if1 .left) (c .before .before .before .before .before .if2 .left) (c .before .before .before .before .if3 .taken)) (c .before .before .close-list .ensures))  -- returns-3
+    (λ c κs. search needs)  -- finish-text-requires
+    (λ c. search needs)  -- same-length-4
+    (λ c. let a = c .before .before .before .before .before .before .before .before .before .before .before .before .before .before .before .before .args in rw (call-finish (a .words .now) (a .atoms .now) (a .at) (c .before .before .before .before .before .before .if1 .left) (c .before .before .before .before .before .if2 .left) (c .before .before .before .before .if3 .left)) (c .before .before .finish-text .ensures)))  -- returns-4

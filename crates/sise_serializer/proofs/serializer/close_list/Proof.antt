@@ -1,9 +1,8 @@
 -- Each return is the definition's answer, for a sound record, at the phase; an open list is closed by the test of its breaks.
 -- Assumes nothing.
 use native.Mathlib.Omega.{arith}
-use mathlib.Core.Path.{refl, ap, _∙_}
-use lib.ListN.{length}
-use Rattle.sise_serializer.specs.Serializer.{place, closeAs, endIn}
+use mathlib.Core.Path.{refl}
+use Rattle.sise_serializer.specs.Serializer.{closeAs, endIn}
 use Rattle.sise_serializer.proofs.Sound.{sound, small, writing-lists}
 use Rattle.sise_serializer.proofs.Does.{refused-does, end-in, close-broken, close-unbroken}
 use borrow.Author.Needs.{needs}

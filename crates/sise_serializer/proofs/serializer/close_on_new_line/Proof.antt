@@ -1,6 +1,6 @@
 -- Line break, indentations and `)` stand at the position, and the record has them counted; or they have no room and all is as it was.
 -- Assumes nothing.
-use Prim.Native.Nat.{ℕ, _-_, min}
+use Prim.Native.Nat.{_-_, min}
 use native.Mathlib.Omega.{arith}
 use mathlib.Core.Path.{_≡_, refl, sym, _∙_}
 use mathlib.Core.Bool.{true}

@@ -5,13 +5,10 @@ use Rattle.sise_serializer.specs.Serializer.{phaseAfter}
 use Rattle.sise_serializer.proofs.serializer.phase_after.Statement.{statement}
 use Rattle.sise_serializer.proofs.serializer.phase_after.Tie as tie
 
-returns : tie.Need-returns
-unfolding phaseAfter
-returns c = simp (eq-eqb _ _ (c .if1 .taken))
-
-returns-2 : tie.Need-returns-2
-unfolding phaseAfter
-returns-2 c = simp (ne-eqb _ _ (c .if1 .left))
-
 pub phase-after-spec : {M : Type 1} → statement M
-phase-after-spec = tie.close (tie.spec returns returns-2)
+unfolding phaseAfter
+phase-after-spec =
+    tie.close
+    (tie.spec
+    (λ c. simp (eq-eqb _ _ (c .if1 .taken)))  -- returns
+    (λ c. simp (ne-eqb _ _ (c .if1 .left))))  -- returns-2

@@ -3,7 +3,8 @@
 use native.Mathlib.Nat.{add-zero}
 use native.Mathlib.Omega.{arith}
 use mathlib.Core.Path.{sym, _∙_}
-use Rattle.sise_serializer.specs.Parts.{tokenOf, gapBytes, inLine}
+use Rattle.sise_serializer.specs.Parts.{gapBytes, inLine}
+use Rattle.sise_tree_writer.specs.Planning.{tokenOf}
 use Rattle.sise_serializer.proofs.Spots.{found, spot-as}
 use Rattle.sise_serializer.proofs.Tests.{gap-short}
 use Rattle.sise_tree_writer.proofs.Planned.{placed, full}

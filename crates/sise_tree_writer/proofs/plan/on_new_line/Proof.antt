@@ -3,7 +3,7 @@
 use native.Mathlib.Omega.{arith}
 use mathlib.Core.Path.{refl, sym, _∙_}
 use Rattle.sise_serializer.specs.Serializer.{style, newLine, laid, innerAs}
-use Rattle.sise_serializer.specs.Parts.{tokenOf}
+use Rattle.sise_tree_writer.specs.Planning.{tokenOf}
 use Rattle.sise_serializer.proofs.Bytes.{layout-length}
 use Rattle.sise_serializer.proofs.Spots.{found, spot-as}
 use Rattle.sise_tree_writer.proofs.Planned.{placed, full}

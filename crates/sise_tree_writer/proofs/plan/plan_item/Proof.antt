@@ -2,8 +2,7 @@
 -- Assumes nothing.
 use mathlib.Core.Path.{refl}
 use Rattle.sise_serializer.proofs.Sound.{small}
-use Rattle.sise_serializer.proofs.Does.{item-first, item-new-line, item-in-line, item-finished, item-done}
-use Rattle.sise_tree_writer.proofs.Planned.{refused-plans}
+use Rattle.sise_tree_writer.proofs.Planned.{refused-plans, item-first, item-new-line, item-in-line, item-finished, item-done}
 use borrow.Author.Needs.{needs}
 use Rattle.sise_tree_writer.proofs.plan.plan_item.Statement.{statement}
 use Rattle.sise_tree_writer.proofs.plan.plan_item.Tie as tie
