@@ -131,12 +131,19 @@ impl Deep {
         Ok(())
     }
 
-    /// In one line, with a final break and without; one byte short; and at the house style's threshold, where the indentations pass every limit.
+    /// In one line, with a final break, as house style has it, and without; and at the house style's threshold, where the indentations pass every limit.
     fn written(&self, calls: &mut Calls, table: &[u32]) -> Check {
         self.writes(calls, table, &lines(), u64::MAX, false, &self.in_line)?;
         let mut house = self.in_line.clone();
         house.push(b'\n');
         self.writes(calls, table, &lines(), u64::MAX, true, &house)?;
+        let (reported, again) = self.timed("read again", || {
+            calls.parse_tree(&house, &vec![u32::MAX; table.len()], Edge::End)
+        });
+        ensure(
+            reported.answer(house.len())? == table.len() as u64 / 4 && again == table,
+            "parse_tree: the deep lists written in house style",
+        )?;
         let before = vec![b'.'; LONGEST];
         let (wrote, after) = self.timed("refused at 72", || {
             calls.serialize_tree(&lines(), &before, &self.text, table, 72, true, Edge::End)
