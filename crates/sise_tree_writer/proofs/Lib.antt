@@ -1,3 +1,4 @@
+pub mod Clipped
 pub mod Planned
 pub mod CallLaws
 pub mod Atoms
