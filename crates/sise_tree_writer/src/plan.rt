@@ -18,12 +18,31 @@ ghost use Rattle.sise_serializer.specs.Parts.{Small, addedWith, inLine, gapByte
 ghost use Rattle.sise_serializer.specs.Calls.{endListCall, finishCall};
 ghost use Rattle.sise_tree_writer.specs.Planning.{PlansAs, Plans, tokenOf, firstItem, itemCall, turnCall};
 
+// A refusal leaves the record.
 fn refused(w: Serializer, answer: Put) -> Wrote
     ensures { λ r. ⌜ r ≡ record { serializer = w; answer = answer } ⌝ }
 {
     Wrote {
-        serializer: w,
+        serializer: remade(w),
         answer,
+    }
+}
+
+// The record made anew from its fields: to copy the whole, with the unused bytes in it, makes each turn wait for the memory.
+pub(crate) fn remade(w: Serializer) -> Serializer
+    ensures { λ r. ⌜ r ≡ w ⌝ }
+{
+    let phase = w.phase;
+    Serializer {
+        position: w.position,
+        lists: w.lists,
+        broken: w.broken,
+        line_len: w.line_len,
+        spaces: w.spaces,
+        breaks: w.breaks,
+        indents: w.indents,
+        phase,
+        list_beginning: w.list_beginning,
     }
 }
 

@@ -1,6 +1,7 @@
 // The walk over a table that holds a tree: node after node the tree's calls are planned, and written if wished. It keeps the next node and the innermost
 // open list, whose span says where it ends and whose third word leads back to the list around it.
 use crate::plan::plan_turn;
+use crate::plan::remade;
 use sise_serializer::Put;
 use sise_serializer::Serializer;
 use sise_serializer::paste;
@@ -225,7 +226,7 @@ pub(crate) fn walk(
     requires { ⌜ Walkable (style (now «line_break») (now indentation)) (now buf) room serializer (now text) (now table) «break_line_at» writes ⌝ }
     ensures { λ r. ⌜ Walks (style (now («line_break» .entry)) (now (indentation .entry))) (now (buf .entry)) room serializer (now (text .entry)) (now (table .entry)) «break_line_at» writes r (now (buf .exit)) ⌝ }
 {
-    let mut w = serializer;
+    let mut w = remade(serializer);
     let mut i = 0;
     let mut list = 0;
     let mut end = wide(table[3]);
