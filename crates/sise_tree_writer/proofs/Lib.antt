@@ -1,4 +1,3 @@
-pub mod Clipped
 pub mod Planned
 pub mod CallLaws
 pub mod Atoms

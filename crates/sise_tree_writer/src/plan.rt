@@ -1,20 +1,20 @@
 // What a call of the writer would do in a buffer of so many bytes, with no byte written: the record behind it and the offset of its token, or a refusal.
 // Atoms were checked before.
-use sise_serializer::LIMIT;
 use sise_serializer::Phase;
 use sise_serializer::Put;
 use sise_serializer::Serializer;
 use sise_serializer::Spot;
 use sise_serializer::Wrote;
+use sise_serializer::find_spot;
 use sise_serializer::phase_after;
 ghost use mathlib.Core.Path.{_≡_};
 ghost use mathlib.Core.Bool.{true, false, _||_, cond};
 ghost use mathlib.Core.List.{[]};
-ghost use Prim.Native.Nat.{_+_, _*_, _≤_, _<_, min};
+ghost use Prim.Native.Nat.{_+_, _≤_, _<_};
 ghost use lib.ListN.{length};
 ghost use Rattle.sise_util.specs.Atom.{isAtom};
 ghost use Rattle.sise_serializer.specs.Serializer.{limit, style, isSound, place, newLine, innerAs, closeAs, last};
-ghost use Rattle.sise_serializer.specs.Parts.{Small, addedWith, inLine, gapBytes, breakBytes, spotOf};
+ghost use Rattle.sise_serializer.specs.Parts.{Small, addedWith, inLine, gapBytes, breakBytes};
 ghost use Rattle.sise_serializer.specs.Calls.{endListCall, finishCall};
 ghost use Rattle.sise_tree_writer.specs.Planning.{PlansAs, Plans, tokenOf, firstItem, itemCall, turnCall};
 
@@ -53,40 +53,12 @@ fn token_len(atom: &[u8], is_list: bool) -> usize
     if is_list { 1 } else { atom.len() }
 }
 
-// A size, of which more than the limit is as good as one byte more: no sum of such sizes wraps.
-fn clipped(len: usize) -> usize
-    ensures { λ r. ⌜ r ≡ min len (limit + 1) ⌝ }
-{
-    if LIMIT < len { LIMIT + 1 } else { len }
-}
-
-// The spot of a token of `token` bytes behind `lead` bytes and `times` indentations: what find_spot of the writer gives, by one sum and one test.
-fn spot_of(
-    position: usize,
-    room: usize,
-    lead: usize,
-    times: usize,
-    indentation: usize,
-    token: usize,
-) -> Spot
-    requires { ⌜ (position ≤ limit) × (times ≤ limit) ⌝ }
-    ensures { λ r. ⌜ r ≡ spotOf room position (lead + times * indentation) token ⌝ }
-{
-    let at = position + clipped(lead) + times * clipped(indentation);
-    let end = at + clipped(token);
-    if room < end || LIMIT < end {
-        return Spot::NoRoom;
-    }
-    Spot::At(at, end)
-}
-
 // The first item of a text.
 fn first_item(w: Serializer, room: usize, atom: &[u8], is_list: bool) -> Wrote
-    requires { ⌜ Small w ⌝ }
     ensures { λ r. ⌜ PlansAs (place room w (firstItem w (now (atom .entry)) «is_list»)) r ⌝ }
 {
     let position = w.position;
-    match spot_of(position, room, 0, 0, 0, token_len(atom, is_list)) {
+    match find_spot(position, room, 0, 0, 0, token_len(atom, is_list)) {
         Spot::At(at, end) => {
             if is_list {
                 return Wrote {
@@ -170,7 +142,7 @@ fn on_new_line(
     let lists = w.lists;
     let size = indentation.len();
     let token = token_len(atom, is_list);
-    match spot_of(position, room, line_break.len(), lists, size, token) {
+    match find_spot(position, room, line_break.len(), lists, size, token) {
         Spot::At(at, end) => {
             let line = lists * size + token;
             let breaks = w.breaks + 1;
@@ -202,7 +174,7 @@ fn in_line(w: Serializer, room: usize, atom: &[u8], is_list: bool) -> Wrote
     let broken = w.broken;
     let lead = spaces_before(w.list_beginning);
     let token = token_len(atom, is_list);
-    match spot_of(position, room, lead, 0, 0, token) {
+    match find_spot(position, room, lead, 0, 0, token) {
         Spot::At(at, end) => {
             let line = w.line_len + lead + token;
             let spaces = w.spaces + lead;
@@ -252,7 +224,7 @@ fn close_on_new_line(w: Serializer, line_break: &[u8], indentation: &[u8], room:
     let position = w.position;
     let left = w.lists - 1;
     let size = indentation.len();
-    match spot_of(position, room, line_break.len(), left, size, 1) {
+    match find_spot(position, room, line_break.len(), left, size, 1) {
         Spot::At(at, end) => {
             let line_len = left * size + 1;
             let breaks = w.breaks + 1;
@@ -283,7 +255,7 @@ fn close_in_line(w: Serializer, room: usize) -> Wrote
 {
     let position = w.position;
     let left = w.lists - 1;
-    match spot_of(position, room, 0, 0, 0, 1) {
+    match find_spot(position, room, 0, 0, 0, 1) {
         Spot::At(at, end) => {
             let line_len = w.line_len + 1;
             return Wrote {
@@ -379,7 +351,7 @@ fn plan_last(w: Serializer, line_break: &[u8], room: usize, insert_line_break: b
 {
     let position = w.position;
     let lead = break_len(line_break, insert_line_break);
-    match spot_of(position, room, lead, 0, 0, 0) {
+    match find_spot(position, room, lead, 0, 0, 0) {
         Spot::At(at, end) => {
             let breaks = w.breaks + one_if(insert_line_break);
             return Wrote {

@@ -17,11 +17,11 @@ close-in-line-spec =
     tie.close
     (tie.spec
     (λ c. search needs)  -- sub-left
-    (λ c κs. let s = c .before .pre .0 in (s .place, omega arith))  -- spot-of-requires
+    (λ c κs. search needs)  -- find-spot-requires
     (λ c. search needs)  -- enum-known-at
     (λ c. search needs)  -- add-line-len
     (λ c κs. search needs)  -- phase-after-requires
-    (λ c. let a = c .before .before .before .before .before .before .before .args in let kept : a .w .broken ≡ min (a .w .broken) (a .w .lists - 1) = omega (arith, c .before .before .before .before .before .before .before .pre .1) in placed (a .room) (a .w) (closeAs (style [] []) (a .w) false) (c .before .before .before .before .before .spot-of .ensures) (c .before .before .before .at .given .1) (λ x. rw (x, c .phase-after .ensures, ← kept)))  -- returns
+    (λ c. let a = c .before .before .before .before .before .before .before .args in let kept : a .w .broken ≡ min (a .w .broken) (a .w .lists - 1) = omega (arith, c .before .before .before .before .before .before .before .pre .1) in placed (a .room) (a .w) (closeAs (style [] []) (a .w) false) (c .before .before .before .before .before .find-spot .ensures) (c .before .before .before .at .given .1) (λ x. rw (x, c .phase-after .ensures, ← kept)))  -- returns
     (λ c. search needs)  -- enum-told
     (λ c κs. search needs)  -- refused-requires
-    (λ c. let a = c .before .before .before .before .before .args in full (a .room) (a .w) (closeAs (style [] []) (a .w) false) (c .before .before .before .spot-of .ensures) (c .refused .ensures) (c .before .enum-told .given .1)))  -- returns-2
+    (λ c. let a = c .before .before .before .before .before .args in full (a .room) (a .w) (closeAs (style [] []) (a .w) false) (c .before .before .before .find-spot .ensures) (c .refused .ensures) (c .before .enum-told .given .1)))  -- returns-2

@@ -19,13 +19,13 @@ in-line-spec =
     (tie.spec
     (λ c κs. search needs)  -- spaces-before-requires
     (λ c κs. search needs)  -- token-len-requires
-    (λ c κs. (c .before .before .before .pre .place, omega arith))  -- spot-of-requires
+    (λ c κs. search needs)  -- find-spot-requires
     (λ c. search needs)  -- enum-known-at
     (λ c. omega (arith, c .before .before .before .before .before .before .before .before .pre .line, c .before .before .before .before .before .before .spaces-before .ensures, gap-short (c .before .before .before .before .before .before .before .before .args .w .«list_beginning»)))  -- add-line
-    (λ c. omega (arith, c .before .before .before .before .before .before .before .before .pre .line, c .before .before .before .before .before .before .spaces-before .ensures, gap-short (c .before .before .before .before .before .before .before .before .args .w .«list_beginning»), found _ _ _ _ (sym (c .before .before .at .given .1) ∙ (spot-as _ _ (c .before .before .before .before .spot-of .ensures) (add-zero _ ∙ c .before .before .before .before .before .before .spaces-before .ensures) (c .before .before .before .before .before .token-len .ensures))) .in-limit, c .before .before .before .before .before .token-len .ensures))  -- add-line-2
+    (λ c. omega (arith, c .before .before .before .before .before .before .before .before .pre .line, c .before .before .before .before .before .before .spaces-before .ensures, gap-short (c .before .before .before .before .before .before .before .before .args .w .«list_beginning»), found _ _ _ _ (sym (c .before .before .at .given .1) ∙ (spot-as _ _ (c .before .before .before .before .find-spot .ensures) (add-zero _ ∙ c .before .before .before .before .before .before .spaces-before .ensures) (c .before .before .before .before .before .token-len .ensures))) .in-limit, c .before .before .before .before .before .token-len .ensures))  -- add-line-2
     (λ c. omega (arith, c .before .before .before .before .before .before .before .before .before .pre .gaps, c .before .before .before .before .before .before .before .spaces-before .ensures, gap-short (c .before .before .before .before .before .before .before .before .before .args .w .«list_beginning»)))  -- add-spaces
     (λ c κs. search needs)  -- added-requires
-    (λ c. let a = c .before .before .before .before .before .before .before .before .before .before .args in placed (a .room) (a .w) (inLine (a .w) (tokenOf (a .is-list) (a .atom .now)) (a .is-list) (gapBytes (a .w .«list_beginning»))) (spot-as _ _ (c .before .before .before .before .before .before .spot-of .ensures) (add-zero _ ∙ c .before .before .before .before .before .before .before .before .spaces-before .ensures) (c .before .before .before .before .before .before .before .token-len .ensures)) (c .before .before .before .before .at .given .1) (λ x. rw (x, c .before .before .before .before .before .before .before .before .spaces-before .ensures, c .before .before .before .before .before .before .before .token-len .ensures) at (c .added .ensures)))  -- returns
+    (λ c. let a = c .before .before .before .before .before .before .before .before .before .before .args in placed (a .room) (a .w) (inLine (a .w) (tokenOf (a .is-list) (a .atom .now)) (a .is-list) (gapBytes (a .w .«list_beginning»))) (spot-as _ _ (c .before .before .before .before .before .before .find-spot .ensures) (add-zero _ ∙ c .before .before .before .before .before .before .before .before .spaces-before .ensures) (c .before .before .before .before .before .before .before .token-len .ensures)) (c .before .before .before .before .at .given .1) (λ x. rw (x, c .before .before .before .before .before .before .before .before .spaces-before .ensures, c .before .before .before .before .before .before .before .token-len .ensures) at (c .added .ensures)))  -- returns
     (λ c. search needs)  -- enum-told
     (λ c κs. search needs)  -- refused-requires
-    (λ c. let a = c .before .before .before .before .before .before .before .args in full (a .room) (a .w) (inLine (a .w) (tokenOf (a .is-list) (a .atom .now)) (a .is-list) (gapBytes (a .w .«list_beginning»))) (spot-as _ _ (c .before .before .before .spot-of .ensures) (add-zero _ ∙ c .before .before .before .before .before .spaces-before .ensures) (c .before .before .before .before .token-len .ensures)) (c .refused .ensures) (c .before .enum-told .given .1)))  -- returns-2
+    (λ c. let a = c .before .before .before .before .before .before .before .args in full (a .room) (a .w) (inLine (a .w) (tokenOf (a .is-list) (a .atom .now)) (a .is-list) (gapBytes (a .w .«list_beginning»))) (spot-as _ _ (c .before .before .before .find-spot .ensures) (add-zero _ ∙ c .before .before .before .before .before .spaces-before .ensures) (c .before .before .before .before .token-len .ensures)) (c .refused .ensures) (c .before .enum-told .given .1)))  -- returns-2

@@ -17,14 +17,14 @@ on-new-line-spec =
     tie.close
     (tie.spec
     (λ c κs. search needs)  -- token-len-requires
-    (λ c κs. (c .before .before .before .before .pre .place, c .before .before .before .before .pre .depth))  -- spot-of-requires
+    (λ c κs. search needs)  -- find-spot-requires
     (λ c. search needs)  -- enum-known-at
-    (λ c. omega (arith, found _ _ _ _ (sym (c .before .at .given .1) ∙ (spot-as _ _ (c .before .before .before .spot-of .ensures) refl (c .before .before .before .before .token-len .ensures))) .in-limit))  -- mul-line
-    (λ c. omega (arith, found _ _ _ _ (sym (c .before .at .given .1) ∙ (spot-as _ _ (c .before .before .before .spot-of .ensures) refl (c .before .before .before .before .token-len .ensures))) .in-limit, c .before .before .before .before .token-len .ensures))  -- add-line
+    (λ c. omega (arith, found _ _ _ _ (sym (c .before .at .given .1) ∙ (spot-as _ _ (c .before .before .before .find-spot .ensures) refl (c .before .before .before .before .token-len .ensures))) .in-limit))  -- mul-line
+    (λ c. omega (arith, found _ _ _ _ (sym (c .before .at .given .1) ∙ (spot-as _ _ (c .before .before .before .find-spot .ensures) refl (c .before .before .before .before .token-len .ensures))) .in-limit, c .before .before .before .before .token-len .ensures))  -- add-line
     (λ c. search needs)  -- add-breaks
     (λ c. search needs)  -- add-indents
     (λ c κs. search needs)  -- added-requires
-    (λ c. let a = c .before .before .before .before .before .before .before .before .before .before .before .args in let size = layout-length (a .line-break .now) (a .w .lists) (a .indentation .now) in placed (a .room) (a .w) (innerAs (style (a .line-break .now) (a .indentation .now)) (a .w) (tokenOf (a .is-list) (a .atom .now)) (a .is-list) newLine) (rw size (spot-as _ _ (c .before .before .before .before .before .before .spot-of .ensures) refl (c .before .before .before .before .before .before .before .token-len .ensures))) (c .before .before .before .before .at .given .1) (λ x. rw (x, c .before .before .before .before .before .before .before .token-len .ensures) at (c .added .ensures)))  -- returns
+    (λ c. let a = c .before .before .before .before .before .before .before .before .before .before .before .args in let size = layout-length (a .line-break .now) (a .w .lists) (a .indentation .now) in placed (a .room) (a .w) (innerAs (style (a .line-break .now) (a .indentation .now)) (a .w) (tokenOf (a .is-list) (a .atom .now)) (a .is-list) newLine) (rw size (spot-as _ _ (c .before .before .before .before .before .before .find-spot .ensures) refl (c .before .before .before .before .before .before .before .token-len .ensures))) (c .before .before .before .before .at .given .1) (λ x. rw (x, c .before .before .before .before .before .before .before .token-len .ensures) at (c .added .ensures)))  -- returns
     (λ c. search needs)  -- enum-told
     (λ c κs. search needs)  -- refused-requires
-    (λ c. let a = c .before .before .before .before .before .before .before .before .args in let size = layout-length (a .line-break .now) (a .w .lists) (a .indentation .now) in full (a .room) (a .w) (innerAs (style (a .line-break .now) (a .indentation .now)) (a .w) (tokenOf (a .is-list) (a .atom .now)) (a .is-list) newLine) (rw size (spot-as _ _ (c .before .before .before .spot-of .ensures) refl (c .before .before .before .before .token-len .ensures))) (c .refused .ensures) (c .before .enum-told .given .1)))  -- returns-2
+    (λ c. let a = c .before .before .before .before .before .before .before .before .args in let size = layout-length (a .line-break .now) (a .w .lists) (a .indentation .now) in full (a .room) (a .w) (innerAs (style (a .line-break .now) (a .indentation .now)) (a .w) (tokenOf (a .is-list) (a .atom .now)) (a .is-list) newLine) (rw size (spot-as _ _ (c .before .before .before .find-spot .ensures) refl (c .before .before .before .before .token-len .ensures))) (c .refused .ensures) (c .before .enum-told .given .1)))  -- returns-2

@@ -12,7 +12,7 @@ plan-item-spec =
     tie.close
     (tie.spec
     (λ c. search needs)  -- enum-told
-    (λ c κs. small _ (c .before .before .before .before .before .pre .0))  -- first-item-requires
+    (λ c κs. search needs)  -- first-item-requires
     (λ c. let st = c .before .before .before .before .before .before in let a = st .args in rw (item-first _ _ (a .w) (st .pre .0) (a .atom .now) _ (a .is-list) (st .pre .1) (c .before .enum-told .given .1)) (c .first-item .ensures))  -- returns
     (λ c. search needs)  -- enum-told-2
     (λ c κs. small _ (c .before .before .before .before .before .before .pre .0))  -- on-new-line-requires

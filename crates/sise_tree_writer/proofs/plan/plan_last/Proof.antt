@@ -19,11 +19,11 @@ plan-last-spec =
     tie.close
     (tie.spec
     (λ c κs. search needs)  -- break-len-requires
-    (λ c κs. (c .before .before .pre .place, omega arith))  -- spot-of-requires
+    (λ c κs. search needs)  -- find-spot-requires
     (λ c. search needs)  -- enum-known-at
     (λ c κs. search needs)  -- one-if-requires
     (λ c. omega (arith, c .before .before .before .before .before .before .before .before .pre .lines, c .before .one-if .ensures, one-at-most (c .before .before .before .before .before .before .before .before .args .insert-line-break)))  -- add-breaks
-    (λ c. let a = c .before .before .before .before .before .before .before .before .args in let n = counted (a .insert-line-break) (a .w .breaks) (c .before .one-if .ensures) in placed (a .room) (a .w) (last (style (a .line-break .now) []) (a .w) (a .insert-line-break)) (spot-as _ _ (c .before .before .before .before .before .spot-of .ensures) (add-zero _ ∙ c .before .before .before .before .before .before .break-len .ensures) refl) (c .before .before .before .at .given .1) (λ x. rw (x, add-zero, n)))  -- returns
+    (λ c. let a = c .before .before .before .before .before .before .before .before .args in let n = counted (a .insert-line-break) (a .w .breaks) (c .before .one-if .ensures) in placed (a .room) (a .w) (last (style (a .line-break .now) []) (a .w) (a .insert-line-break)) (spot-as _ _ (c .before .before .before .before .before .find-spot .ensures) (add-zero _ ∙ c .before .before .before .before .before .before .break-len .ensures) refl) (c .before .before .before .at .given .1) (λ x. rw (x, add-zero, n)))  -- returns
     (λ c. search needs)  -- enum-told
     (λ c κs. search needs)  -- refused-requires
-    (λ c. let a = c .before .before .before .before .before .before .args in full (a .room) (a .w) (last (style (a .line-break .now) []) (a .w) (a .insert-line-break)) (spot-as _ _ (c .before .before .before .spot-of .ensures) (add-zero _ ∙ c .before .before .before .before .break-len .ensures) refl) (c .refused .ensures) (c .before .enum-told .given .1)))  -- returns-2
+    (λ c. let a = c .before .before .before .before .before .before .args in full (a .room) (a .w) (last (style (a .line-break .now) []) (a .w) (a .insert-line-break)) (spot-as _ _ (c .before .before .before .find-spot .ensures) (add-zero _ ∙ c .before .before .before .before .break-len .ensures) refl) (c .refused .ensures) (c .before .enum-told .given .1)))  -- returns-2
