@@ -29,10 +29,12 @@
  *
  * Tables. A tree is held in a table of 32-bit words, four a node, a list's children after it in order:
  *     an atom:  1, place of its first byte in the text, number of bytes, 1
- *     a list:   0, number of children, 0, number of nodes in it with itself
- * A table has no text of its own: the calls want the text beside it. Words after the first node's are not looked at, so the
- * subtree of node i is the table from word 4 * i on. The tree calls look at the whole table before they trust it, whoever
- * wrote it. A text of n bytes has at most n nodes: 4 * n words are always enough.
+ *     a list:   0, number of children, distance in nodes back to its parent, number of nodes in it with itself
+ * A list's parent is the list that it stands in: if the list is node i and its distance d, the parent is node i - d. The text's
+ * own list has no parent, and 0 there. A table has no text of its own: the calls want the text beside it. In the first node that
+ * is lent the distance is not looked at, and neither are the words after that node's own, so the subtree of node i is the table
+ * from word 4 * i on. The tree calls look at the whole table before they trust it, whoever wrote it. A text of n bytes has at
+ * most n nodes: 4 * n words are always enough. Lists may nest as deep as the text is long.
  */
 #ifndef SISE_H
 #define SISE_H
@@ -48,16 +50,13 @@ extern "C" {
 /* The most bytes of a text that a tree call reads, and the most that any call writes. */
 #define SISE_LONGEST 16777216
 
-/* The most lists that may be open in each other where a text is written. Where it is read, there is no such limit. */
-#define SISE_DEEPEST 200
-
 /* The largest threshold: no line is ever broken. */
 #define SISE_ONE_LINE UINT64_MAX
 
 /* The threshold of the house style. */
 #define SISE_HOUSE_THRESHOLD 72
 
-/* Refusals. 9 to 12 are numbers of calls that go item by item, which this library does not have. */
+/* Refusals. 9 to 12 are numbers of calls that go item by item, which this library does not have; 21 is no longer given. */
 enum sise_refusal {
     SISE_OK = 0,
     /* In a text, with a place. */
@@ -79,7 +78,6 @@ enum sise_refusal {
     SISE_NO_LIST_TO_END = 18,       /* only in the answers of sise_write_calls */
     SISE_WRITING_FINISHED = 19,     /* only there: the node is whole, or finish was called */
     SISE_WRITING_NOT_FINISHED = 20, /* only there: finish before the node is whole */
-    SISE_TOO_DEEP = 21,             /* a list would be the 201st open */
     SISE_NO_ROOM = 22               /* the text would pass the buffer's end, or SISE_LONGEST */
 };
 
@@ -114,7 +112,7 @@ uint32_t sise_index_path(const uint32_t *table, size_t table_len, const uint8_t 
  * With final_break a line_break is written behind the tree. House style is "\n", "  ", SISE_HOUSE_THRESHOLD and true; a program
  * that wants every line broken names 0. Both strings are written as they are: only if they are blank (space, tab, LF, CR) and
  * line_break is not empty does the text read back as this tree.
- * Refused: 13; 15; 17, if what the table calls an atom is none; 21; 22, which sise_measure_tree says beforehand.
+ * Refused: 13; 15; 17, if what the table calls an atom is none; 22, which sise_measure_tree says beforehand.
  */
 uint32_t sise_serialize_tree(const uint8_t *line_break, size_t line_break_len, const uint8_t *indentation,
                              size_t indentation_len, uint8_t *buf, size_t buf_len, const uint8_t *text, size_t text_len,
@@ -124,7 +122,7 @@ uint32_t sise_serialize_tree(const uint8_t *line_break, size_t line_break_len, c
 /*
  * Answers the number of bytes that sise_serialize_tree writes of the same tree in the same layout: what it answers with a
  * buffer of SISE_LONGEST bytes. Nothing is written.
- * Refused: 13; 15; 17; 21; 22, where the text would pass SISE_LONGEST.
+ * Refused: 13; 15; 17; 22, where the text would pass SISE_LONGEST.
  */
 uint32_t sise_measure_tree(const uint8_t *line_break, size_t line_break_len, const uint8_t *indentation,
                            size_t indentation_len, const uint8_t *text, size_t text_len, const uint32_t *table,
@@ -152,7 +150,7 @@ uint32_t sise_read_items(const uint8_t *text, size_t text_len, uint64_t *words, 
  * a rest of fewer than four words, and where no answer word is left. Call k, counted from 0, writes answers[k]: the
  * offset of what it wrote, or 2^32 plus the number of its refusal, which leaves the buffer as it was; the next call runs all the
  * same.
- * Refused: put_atom 17, 19, 22; begin_list 19, 21, 22; end_list 18 or 19, 22; finish 20 or 19, 22.
+ * Refused: put_atom 17, 19, 22; begin_list 19, 22; end_list 18 or 19, 22; finish 20 or 19, 22.
  */
 uint64_t sise_write_calls(const uint64_t *words, size_t words_len, const uint8_t *atoms, size_t atoms_len,
                           const uint8_t *line_break, size_t line_break_len, const uint8_t *indentation,

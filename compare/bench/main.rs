@@ -292,15 +292,21 @@ fn trees(size: usize) {
     );
     let profile = typical(size);
     let flat = list_of("x 12 -0.5 ", size);
-    let deep = list_of(&format!("{}{} ", "(".repeat(150), ")".repeat(150)), size);
+    let nested = |lists| {
+        let list = format!("{}{} ", "(".repeat(lists), ")".repeat(lists));
+        list_of(&list, size)
+    };
+    let (deep, deeper) = (nested(150), nested(5_000));
     tree_read("read, typical profile", &profile);
     tree_read("read, flat", &flat);
     tree_read("read, deep", &deep);
+    tree_read("read, 5,000 deep", &deeper);
     for (place, threshold) in [("broken", 0), ("at 80", 80), ("one line", usize::MAX)] {
         tree_written(&format!("written, typical, {place}"), &profile, threshold);
     }
     tree_written("written, flat, at 80", &flat, 80);
     tree_written("written, deep, one line", &deep, usize::MAX);
+    tree_written("written, 5,000 deep", &deeper, usize::MAX);
     tree_indexed("path, typical profile", &profile, &[1, 4, 2, 1]);
     tree_indexed("path, 10 kB", &typical(10_000), &[1, 4, 2, 1]);
 }

@@ -60,19 +60,24 @@ fn in_order(text: &[u8], words: &[u64]) -> Check {
     Ok(())
 }
 
-/// The items, written again, read as the same kinds; what the writer can't nest is left.
+/// Up to this length a text's items are written again with indentations; for a longer one they could pass every limit.
+const LONGEST_INDENTED: usize = 400;
+
+/// The items, written again, read as the same kinds.
 fn written(calls: &mut Calls, text: &[u8], words: &[u64]) -> Check {
+    let mut style = lines();
+    if text.len() > LONGEST_INDENTED {
+        style.indentation.clear();
+    }
+    // An item is a byte of the text or more, and no more lists are open than there are items.
+    let room = text.len() * (style.indentation.len() * text.len() + 2) + 1;
     let script = Script {
         words: [words, &[4, 0, 0, 0]].concat(),
         atoms: text.to_vec(),
-        style: lines(),
+        style,
         answers: vec![0; words.len() / 4 + 1],
     };
-    let room = 2 * text.len() * (text.len().min(200) + 2) + 2;
     let wrote = calls.write(&script, &vec![0; room], false, Edge::End);
-    if wrote.answers.contains(&refused(21)) {
-        return Ok(());
-    }
     ensure(
         wrote.answers.iter().all(|&word| refusal(word).is_none()),
         "read_items: its words are accepted by write_calls",

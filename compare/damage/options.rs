@@ -10,9 +10,9 @@ pub struct Options {
     pub seed: u64,
     /// New seeds until so many hours are over, `--hours H`; else one seed.
     pub hours: f64,
-    /// A list that is nested as deep as a text is long, `--deep`.
+    /// Lists in each other, a million and as many as a text can be long, `--deep`.
     pub deep: bool,
-    /// The texts at the limit and the deep list not at all, `--small`.
+    /// The texts at the limit and the deep lists not at all, `--small`.
     pub small: bool,
 }
 

@@ -84,6 +84,10 @@ fn parsed(calls: &mut Calls, text: &[u8], before: &[u32]) -> Check<(u64, Vec<u32
             "parse_tree: the nodes answered",
         )?;
         ensure(
+            matches!(after[..], [1, ..] | [0, _, 0, ..]),
+            "parse_tree: 0 as the root's third word",
+        )?;
+        ensure(
             holds_tree(&after, text.len()),
             "parse_tree: the table holds a tree",
         )?;

@@ -7,9 +7,6 @@ use crate::random::Random;
 use crate::styles::style;
 use crate::texts::Texts;
 
-/// The most open lists that document 01 allows.
-const MOST_LISTS: usize = 200;
-
 pub fn script(random: &mut Random, texts: &Texts) -> Script {
     let atoms = if random.percent(70) {
         atom_characters(random)
@@ -54,7 +51,7 @@ fn atom_characters(random: &mut Random) -> Vec<u8> {
 fn orderly(random: &mut Random, count: usize, atoms: usize) -> Vec<u64> {
     let opening = random.pick(&[5, 30, 60, 97]);
     let mut open = if random.percent(10) {
-        MOST_LISTS - 4 + random.below(6)
+        1 + random.below(600)
     } else {
         1
     };

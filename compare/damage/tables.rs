@@ -36,13 +36,13 @@ pub fn words(random: &mut Random, near: usize) -> Vec<u32> {
         .collect()
 }
 
-/// Nodes that have a form, with counts and spans that overlap, stop short or run past the end.
+/// Nodes that have a form, with counts, ways back and spans that overlap, stop short or run past the end.
 fn nodes(random: &mut Random, text_len: usize) -> Vec<u32> {
     let mut table = Vec::new();
     for _ in 0..random.below(9) {
         if random.percent(50) {
-            let (children, span) = (random.below(4), random.below(6));
-            table.extend([0, children as u32, 0, span as u32]);
+            let (children, back, span) = (random.below(4), random.below(4), random.below(6));
+            table.extend([0, children as u32, back as u32, span as u32]);
         } else {
             let place = random.below(text_len + 2);
             let len = random.below(text_len + 2 - place);
@@ -62,7 +62,7 @@ fn change(random: &mut Random, table: &mut Vec<u32>, text_len: usize) {
     // A node's beginning, so that forms stay as they are.
     let node = at / 4 * 4;
     let to = table.len().min(node + 4 * (1 + random.below(3)));
-    match random.below(10) {
+    match random.below(13) {
         0 => table[at] = hostile(random, text_len) as u32,
         1 => table[at] = hostile(random, table.len() / 4) as u32,
         2 => table[at] = table[at].wrapping_add(1),
@@ -79,7 +79,20 @@ fn change(random: &mut Random, table: &mut Vec<u32>, text_len: usize) {
             table.drain(node..to);
         }
         8 => table[node..to].rotate_left((to - node).min(4)),
+        // The part of the table from a node.
+        9 => {
+            table.drain(..node);
+        }
+        10..=11 => turn_back(random, table, node),
         _ => move_atom(random, &mut table[node..to], text_len),
+    }
+}
+
+/// The node, if it is a list, gets another way back to its parent.
+fn turn_back(random: &mut Random, table: &mut [u32], node: usize) {
+    let hostile = hostile(random, node / 4) as u32;
+    if let [0, _, third, ..] = &mut table[node..] {
+        *third = random.pick(&[0, 1, third.wrapping_add(1), third.wrapping_sub(1), hostile]);
     }
 }
 

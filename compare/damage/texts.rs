@@ -64,9 +64,9 @@ fn ill_formed(random: &mut Random) -> Vec<u8> {
     text
 }
 
-/// Lists in lists about the limit of 200, with some closed too often or not at all.
+/// Lists in lists, with some closed too often or not at all.
 fn deep(random: &mut Random) -> Vec<u8> {
-    let depth = random.pick(&[5, 198, 199, 200, 201, 202, 1_000]);
+    let depth = random.pick(&[2, 5, 60, 250, 1_000, 3_000]);
     let closed = if random.percent(70) {
         depth
     } else {

@@ -81,8 +81,8 @@ impl Tree {
         let answer = reported.answer(text.len())?;
         if let Some(number) = refusal(answer) {
             ensure(
-                [15, 17, 21, 22].contains(&number),
-                "serialize_tree: 15, 17, 21 or 22",
+                [15, 17, 22].contains(&number),
+                "serialize_tree: 15, 17 or 22",
             )?;
             ensure(
                 after == before,

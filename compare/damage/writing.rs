@@ -4,12 +4,12 @@ use crate::answers::{ensure, only_first, refusal, refused, twice, Check};
 use crate::calls::{Calls, Script, Wrote};
 
 /// The refusals of each kind of call that a fresh record leads to: put_atom, begin_list, end_list, finish without and with a break.
-const OF_KIND: [[u64; 3]; 5] = [
-    [17, 19, 22],
-    [19, 21, 22],
-    [18, 19, 22],
-    [19, 20, 22],
-    [19, 20, 22],
+const OF_KIND: [&[u64]; 5] = [
+    &[17, 19, 22],
+    &[19, 22],
+    &[18, 19, 22],
+    &[19, 20, 22],
+    &[19, 20, 22],
 ];
 
 const LARGEST_KIND: u64 = OF_KIND.len() as u64 - 1;

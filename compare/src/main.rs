@@ -83,7 +83,7 @@ mod serializer {
     /// What the crate keeps of document 01's record while it writes.
     #[derive(Debug, PartialEq, Eq)]
     pub struct Kept {
-        pub broken: Vec<bool>,
+        pub flags: Vec<bool>,
         pub list_beginning: bool,
         pub line_len: usize,
     }
@@ -117,7 +117,7 @@ mod serializer {
             };
             let outer = state.stack.iter().map(|item| item.line_broken);
             Some(Kept {
-                broken: outer.chain([state.current_list_line_broken]).collect(),
+                flags: outer.chain([state.current_list_line_broken]).collect(),
                 list_beginning: state.list_beginning,
                 line_len: state.line_len,
             })

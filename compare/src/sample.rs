@@ -16,7 +16,7 @@ use crate::writer_judge::{silenced, WriterJudge};
 use crate::writing::WriterCase;
 use std::io::Write;
 
-const LARGEST_SCRIPT: usize = 60_000;
+const LARGEST_SCRIPT: usize = 65_000;
 
 pub fn run(words: &[String]) -> Result<bool, String> {
     let mut judge = Judge::default();
@@ -71,10 +71,10 @@ fn cases() -> Vec<Case> {
     cases
 }
 
-/// The worked writings, 200 and 201 open lists, some short lists of calls, and random ones.
+/// The worked writings, 250 open lists, some short lists of calls, and random ones.
 fn writer_sample() -> Vec<WriterCase> {
     let mut cases = writer_cases::worked();
-    cases.extend(writer_cases::deep());
+    cases.extend(writer_cases::deep(&[250]));
     // A prime, so that the steps go through every style, room and call.
     cases.extend(writer_cases::exhaustive(3).step_by(293));
     let mut maker = writer_cases::Maker::new(0, 60);
@@ -86,7 +86,7 @@ fn writer_sample() -> Vec<WriterCase> {
 fn tree_sample() -> Vec<TreeCase> {
     let mut cases = tree_examples::cases();
     // Primes, so that the steps go through every threshold and depth.
-    cases.extend(tree_cases::deep().into_iter().step_by(17));
+    cases.extend(tree_cases::deep().into_iter().step_by(13));
     cases.extend(tree_cases::short(3, 0).step_by(11));
     let mut maker = tree_cases::Maker::new(0, 100);
     cases.extend((0..40).map(|_| maker.random_case()));

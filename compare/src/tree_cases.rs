@@ -46,12 +46,11 @@ pub fn plain(text: &[u8]) -> TreeCase {
     }
 }
 
-/// As many open lists as there may be, one fewer and one more, the writer's and the tree's together; and deeper trees.
+/// Lists in each other, the writer's and the tree's together up to 1,300.
 pub fn deep() -> Vec<TreeCase> {
     let mut cases = Vec::new();
-    for lists in [0, 1, 3, 199, 200, 201] {
-        let room: usize = 200 - lists.min(200);
-        for depth in [room.saturating_sub(1), room, room + 1, 400, 1_000] {
+    for lists in [0, 1, 3, 300] {
+        for depth in [0, 1, 250, 700, 1_000] {
             for (threshold, atom) in [(0, "a"), (300, "\"b c\""), (LARGEST, "")] {
                 let text = format!("{}{atom}{}", "(".repeat(depth), ")".repeat(depth));
                 let longest = depth.min(LONGEST_PATH - 1);
@@ -152,11 +151,11 @@ impl Maker {
             paths: node.map_or(vec![vec![]], |node| paths(random, &node)),
             ..plain(&text)
         };
-        if random.percent(20) {
-            case.stores = stores(random, &case);
-        }
         if random.percent(15) {
             case.first = first(random, case.words);
+        }
+        if random.percent(20) {
+            case.stores = stores(random, &case);
         }
         case.room = room(random, &case);
         case
@@ -184,13 +183,18 @@ fn threshold(random: &mut Random) -> u64 {
     }
 }
 
-/// A few words stored anywhere: most make the table one that holds no tree, or an atom none.
+/// A few words stored: most make the table one that holds no tree, or an atom none. Every other one is a third word, which says of a list where its
+/// parent is, and one in four of these is the first node's that the calls are lent, where it isn't looked at.
 fn stores(random: &mut Random, case: &TreeCase) -> Vec<(usize, u32)> {
     let len = case.text.len() as u32;
     (0..=random.below(3))
         .map(|_| {
-            let place = random.below(case.words + 2);
             let near = random.below(case.words / 4 + 2) as u32;
+            let place = match random.below(8) {
+                0 => case.first + 2,
+                1..=3 => 4 * random.below(case.words / 4 + 1) + 2,
+                _ => random.below(case.words + 2),
+            };
             let word = random.pick(&[0, 1, 2, 3, near, near, len, len + 1, u32::MAX]);
             (place, word)
         })

@@ -1,13 +1,13 @@
-//! Document 01's examples of trees, with their answers written by hand from it.
+//! Examples of trees from document 01 and request 2.6, with their answers written by hand from them.
 
 use crate::differences::Differences;
 use crate::tree_case::TreeCase;
 use crate::tree_cases::plain;
 use crate::tree_judge::TreeJudge;
 
-/// The worked tree and its paths, and the rows 12, 14 and 15 of the table of refusals.
+/// The worked tree and its paths; the rows 12, 14 and 15 of the table of refusals; and the third words of lists.
 pub fn cases() -> Vec<TreeCase> {
-    vec![
+    let mut cases = vec![
         TreeCase {
             words: 24,
             paths: vec![vec![1, 1], vec![3], vec![0, 0], vec![]],
@@ -28,20 +28,58 @@ pub fn cases() -> Vec<TreeCase> {
             paths: vec![vec![]],
             ..plain(b"a")
         },
+    ];
+    cases.extend(third_words());
+    cases
+}
+
+/// The root's third word isn't looked at, an empty list's is, and in the first node of a subtree it isn't.
+fn third_words() -> [TreeCase; 3] {
+    let case = |stores, first| TreeCase {
+        words: 16,
+        stores,
+        first,
+        paths: vec![vec![], vec![2]],
+        ..plain(b"(()a())")
+    };
+    [
+        case(vec![(2, 7)], 0),
+        case(vec![(14, 1)], 0),
+        case(vec![(14, 1)], 12),
     ]
 }
 
-const ANSWERS: [&str; 4] = [
-    "# 6 | 16 2 0\n: 0 3 0 6 1 1 1 1 0 2 0 3 1 4 2 1 1 7 5 1 1 14 1 1\n\
-     @ 0 | 16 2 0 0 16 3 0 0 \n= (z (+1 \"a b\") ~)\n\
-     @ 0 | 29 3 0 0 1 0 6 5 \n= (z\n  (+1\n    \"a b\"\n  )\n  ~\n)\n\n\
+const ANSWERS: [&str; 7] = [
+    "# 6 | 16 2 0\n: 0 3 0 6 1 1 1 1 0 2 2 3 1 4 2 1 1 7 5 1 1 14 1 1\n\
+     @ 0 | 16 2 0 0 16 3 0 0 0\n= (z (+1 \"a b\") ~)\n\
+     @ 0 | 29 3 0 0 1 0 6 5 0\n= (z\n  (+1\n    \"a b\"\n  )\n  ~\n)\n\n\
+     @ 0 | 17 3 0 0 16 3 1 0 0\n= (z (+1 \"a b\") ~)\n\n\
+     @ 0 | 17 3 0 0 16 3 1 0 0\n= (z (+1 \"a b\") ~)\n\n\
      # 4\n! 16\n! 16\n# 0\n",
     "! 12 1 0 | 2 2 0\n: 2863311530 2863311530 2863311530 2863311530\n\
-     ! 15 | 0 0 0 0 0 0 0 0 \n= \n! 15 | 0 0 0 0 0 0 0 0 \n= \n",
+     ! 15 | 0 0 0 0 0 0 0 0 0\n= \n! 15 | 0 0 0 0 0 0 0 0 0\n= \n\
+     ! 15 | 0 0 0 0 0 0 0 0 0\n= \n! 15 | 0 0 0 0 0 0 0 0 0\n= \n",
     "! 14 0 0 | 0 0 0\n: 2863311530 2863311530 2863311530\n\
-     ! 15 | 0 0 0 0 0 0 0 0 \n= \n! 15 | 0 0 0 0 0 0 0 0 \n= \n",
+     ! 15 | 0 0 0 0 0 0 0 0 0\n= \n! 15 | 0 0 0 0 0 0 0 0 0\n= \n\
+     ! 15 | 0 0 0 0 0 0 0 0 0\n= \n! 15 | 0 0 0 0 0 0 0 0 0\n= \n",
     "# 1 | 1 2 0\n: 1 0 1 1\n\
-     ! 15 | 0 0 0 0 0 0 0 0 \n= \n! 15 | 0 0 0 0 0 0 0 0 \n= \n! 15\n",
+     ! 15 | 0 0 0 0 0 0 0 0 0\n= \n! 15 | 0 0 0 0 0 0 0 0 0\n= \n\
+     ! 15 | 0 0 0 0 0 0 0 0 0\n= \n! 15 | 0 0 0 0 0 0 0 0 0\n= \n! 15\n",
+    "# 4 | 7 2 0\n: 0 3 0 4 0 0 1 1 1 3 1 1 0 0 3 1\n\
+     @ 0 | 9 2 0 0 9 2 0 0 0\n= (() a ())\n\
+     @ 0 | 18 3 0 0 1 0 5 3 0\n= (\n  ()\n  a\n  ()\n)\n\n\
+     @ 0 | 10 3 0 0 9 2 1 0 0\n= (() a ())\n\n\
+     @ 0 | 10 3 0 0 9 2 1 0 0\n= (() a ())\n\n\
+     # 0\n# 3\n",
+    "# 4 | 7 2 0\n: 0 3 0 4 0 0 1 1 1 3 1 1 0 0 3 1\n\
+     ! 15 | 0 0 0 0 0 0 0 0 0\n= \n! 15 | 0 0 0 0 0 0 0 0 0\n= \n\
+     ! 15 | 0 0 0 0 0 0 0 0 0\n= \n! 15 | 0 0 0 0 0 0 0 0 0\n= \n! 15\n! 15\n",
+    "# 4 | 7 2 0\n: 0 3 0 4 0 0 1 1 1 3 1 1 0 0 3 1\n\
+     @ 0 | 2 2 0 0 2 0 0 0 0\n= ()\n\
+     @ 0 | 3 3 0 0 2 0 1 0 0\n= ()\n\n\
+     @ 0 | 3 3 0 0 2 0 1 0 0\n= ()\n\n\
+     @ 0 | 3 3 0 0 2 0 1 0 0\n= ()\n\n\
+     # 0\n! 16\n",
 ];
 
 /// Prints how many of the examples hold; answers whether all do.
@@ -55,9 +93,9 @@ pub fn check() -> bool {
         }
     }
     println!(
-        "examples of document 01: {}, {} that fail",
+        "examples of documents 01 and 02: {}, {} that fail",
         ANSWERS.len(),
         differences.count
     );
-    differences.print("the first one, document 01's answers expected:")
+    differences.print("the first one, the documents' answers expected:")
 }

@@ -135,7 +135,7 @@ impl TreeJudge {
         }
     }
 
-    /// Makes an accepted call on the crate's writer; where the model has 17 or 19, sees that the crate panics. To 15, 21 and 22 it has nothing.
+    /// Makes an accepted call on the crate's writer; where the model has 17 or 19, sees that the crate panics. To 15 and 22 it has nothing.
     fn follow_writing(
         &mut self,
         case: &TreeCase,

@@ -1,7 +1,8 @@
-//! Document 01's rules for trees and their tables, as they stand there ("Trees", and the tree calls' order of refusals).
+//! Document 01's rules for trees and their tables, as they stand there ("Trees", and the tree calls' order of refusals), with a list's third word as
+//! request 2.6 has it.
 
 use crate::reading::{Item, Reader, Record, Refusal};
-use crate::writer_model::{is_atom, Model, Phase, MOST_LISTS};
+use crate::writer_model::{is_atom, Model, Phase};
 use crate::writing::{Call, Style};
 
 #[derive(Debug, PartialEq, Eq)]
@@ -19,22 +20,17 @@ impl Node {
         }
     }
 
-    /// The most lists that are open at once in it.
-    fn depth(&self) -> usize {
-        match self {
-            Node::Atom { .. } => 0,
-            Node::List(children) => 1 + children.iter().map(Node::depth).max().unwrap_or(0),
-        }
-    }
-
-    fn put_words(&self, out: &mut Vec<u32>) {
+    /// Its words, behind those of its parent and of the nodes between: a list's third is the distance in nodes back to its parent, 0 at the root.
+    fn put_words(&self, back: usize, out: &mut Vec<u32>) {
         let word = |number: usize| u32::try_from(number).expect("a short text");
         match self {
             Node::Atom { place, len } => out.extend([1, word(*place), word(*len), 1]),
             Node::List(children) => {
-                out.extend([0, word(children.len()), 0, word(self.size())]);
+                out.extend([0, word(children.len()), word(back), word(self.size())]);
+                let mut back = 1;
                 for child in children {
-                    child.put_words(out);
+                    child.put_words(back, out);
+                    back += child.size();
                 }
             }
         }
@@ -73,7 +69,7 @@ pub fn parse_tree<'a>(reader: &mut impl Reader<'a>, table: &mut [u32]) -> Parsed
         }
         Ok(node) => {
             let mut words = Vec::new();
-            node.put_words(&mut words);
+            node.put_words(0, &mut words);
             table[..words.len()].copy_from_slice(&words);
             Ok(node.size())
         }
@@ -111,13 +107,19 @@ pub fn read_node<'a>(reader: &mut impl Reader<'a>) -> Result<Node, Refusal> {
     }
 }
 
-/// The tree that a table holds over a text of so many bytes.
+/// The tree that a table holds over a text of so many bytes. The first node's third word isn't looked at, if it is a list.
 pub fn held(words: &[u32], text_len: usize) -> Option<Node> {
-    node_at(words, 0, words.len() / 4, text_len)
+    node_at(words, 0, None, words.len() / 4, text_len)
 }
 
-/// Node `at`, whose nodes end before node `end` or with it.
-fn node_at(words: &[u32], at: usize, end: usize, text_len: usize) -> Option<Node> {
+/// Node `at`, whose nodes end before node `end` or with it, and whose parent, if it is a list, lies `back` nodes before it.
+fn node_at(
+    words: &[u32],
+    at: usize,
+    back: Option<usize>,
+    end: usize,
+    text_len: usize,
+) -> Option<Node> {
     let word = |k: usize| words.get(4 * at + k).map(|&word| word as usize);
     let span = word(3)?;
     if span > end.checked_sub(at)? {
@@ -125,11 +127,11 @@ fn node_at(words: &[u32], at: usize, end: usize, text_len: usize) -> Option<Node
     }
     match (word(0)?, word(1)?, word(2)?, span) {
         (1, place, len, 1) if place + len <= text_len => Some(Node::Atom { place, len }),
-        (0, count, 0, 1..) => {
+        (0, count, third, 1..) if back.is_none_or(|back| back == third) => {
             let mut children = Vec::new();
             let mut next = at + 1;
             for _ in 0..count {
-                let child = node_at(words, next, at + span, text_len)?;
+                let child = node_at(words, next, Some(next - at), at + span, text_len)?;
                 next += child.size();
                 children.push(child);
             }
@@ -194,7 +196,7 @@ pub fn serialize_house_at(
     write_tree(model, tree, text, threshold, Some(Call::Finish(true)))
 }
 
-/// 15, 17, 19, 21, 22, "each over the whole node before the next". A refusal leaves the model as it was.
+/// 15, 17, 19, 22, "each over the whole node before the next". A refusal leaves the model as it was.
 fn write_tree(
     model: &mut Model,
     tree: Option<&Node>,
@@ -208,9 +210,6 @@ fn write_tree(
     }
     if matches!(model.phase, Phase::Finished | Phase::Done) {
         return Err(19);
-    }
-    if model.broken.len() + tree.depth() > MOST_LISTS {
-        return Err(21);
     }
     let mut calls = Vec::new();
     put_calls(tree, text, threshold, &mut calls);

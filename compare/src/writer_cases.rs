@@ -30,7 +30,7 @@ pub fn all(options: &Options) -> impl Iterator<Item = WriterCase> {
     let default = if options.quick { 40_000 } else { 1_000_000 };
     worked()
         .into_iter()
-        .chain(deep())
+        .chain(deep(&[250, 1_000]))
         .chain(exhaustive(longest))
         .chain(random)
         .take(options.cases.unwrap_or(default))
@@ -59,21 +59,24 @@ pub fn worked() -> Vec<WriterCase> {
     vec![writing(4), writing(5)]
 }
 
-/// As many open lists as there may be, and one more, each broken or not.
-pub fn deep() -> Vec<WriterCase> {
+/// So many lists in each other: begun in one line, each on a line of its own, or the outer half in one way and the inner half in the other.
+pub fn deep(depths: &[usize]) -> Vec<WriterCase> {
     let mut cases = Vec::new();
-    for count in [200, 201] {
-        for threshold in [LARGEST, 0] {
-            let mut calls = vec![Call::BeginList(LARGEST); 150];
-            calls.extend(vec![Call::BeginList(threshold); count - 150]);
-            calls.push(atom(b"a", LARGEST));
-            calls.extend(vec![Call::EndList; 201]);
-            calls.push(Call::Finish(true));
-            cases.push(WriterCase {
-                style: style("\n", ""),
-                room: LARGEST_ROOM,
-                calls,
-            });
+    for &depth in depths {
+        for outer in [LARGEST, 0] {
+            for inner in [LARGEST, 0] {
+                let mut calls = vec![Call::BeginList(outer); depth / 2];
+                calls.extend(vec![Call::BeginList(inner); depth - depth / 2]);
+                calls.push(atom(b"a", LARGEST));
+                // One more than there are.
+                calls.extend(vec![Call::EndList; depth + 1]);
+                calls.push(Call::Finish(true));
+                cases.push(WriterCase {
+                    style: style("\n", ""),
+                    room: LARGEST_ROOM,
+                    calls,
+                });
+            }
         }
     }
     cases
@@ -192,7 +195,7 @@ impl Maker {
 
     /// Ends the lists that are open, and the writing.
     fn close(&mut self, model: &mut Model, calls: &mut Vec<Call>) {
-        calls.extend(model.broken.iter().map(|_| Call::EndList));
+        calls.extend(model.flags.iter().map(|_| Call::EndList));
         calls.push(Call::Finish(self.random.percent(50)));
         if self.random.percent(20) {
             calls.push(Call::Finish(true));
@@ -214,7 +217,7 @@ impl Maker {
             return Call::BeginList(threshold);
         }
         // The outermost list is left open for most of the time.
-        let ending = if model.broken.len() > 1 { 35 } else { 3 };
+        let ending = if model.flags.len() > 1 { 35 } else { 3 };
         if random.percent(ending) {
             return Call::EndList;
         }

@@ -47,8 +47,8 @@ impl WriterJudge {
         lines
     }
 
-    /// Makes an accepted call on the crate's writer; where the model refuses with a panic's number, sees that the crate panics. 21 and 22 are
-    /// added, and so is 19 once `finish` has used the crate's writer up: there is nothing to hold them against.
+    /// Makes an accepted call on the crate's writer; where the model refuses with a panic's number, sees that the crate panics. 22 is added,
+    /// and so is 19 once `finish` has used the crate's writer up: there is nothing to hold them against.
     fn follow<'a, 'b>(
         &mut self,
         case: &WriterCase,
@@ -155,7 +155,7 @@ fn panics(serializer: &Serializer, call: &Call) -> bool {
 /// Whether the crate has the model's text and, while it writes, its record.
 pub fn agree(model: &Model, serializer: &Serializer) -> bool {
     let kept = (model.phase == Phase::Writing).then(|| Kept {
-        broken: model.broken.clone(),
+        flags: model.flags.clone(),
         list_beginning: model.list_beginning,
         line_len: model.line_len,
     });

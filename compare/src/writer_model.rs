@@ -1,8 +1,7 @@
-//! Document 01's rules for the writer, as they stand there.
+//! Document 01's rules for the writer, as they stand there, without the depth limit that request 2.6 takes away.
 
 use crate::writing::{Call, Style};
 
-pub const MOST_LISTS: usize = 200;
 const LIMIT: usize = 16_777_216;
 
 /// The numbers are the script's.
@@ -21,8 +20,8 @@ pub struct Model {
     room: usize,
     pub text: Vec<u8>,
     pub phase: Phase,
-    /// The broken flag of each open list, outermost first.
-    pub broken: Vec<bool>,
+    /// The broken flag of each open list, outermost first, as the crate has them.
+    pub flags: Vec<bool>,
     pub list_beginning: bool,
     pub line_len: usize,
     pub spaces: usize,
@@ -37,7 +36,7 @@ impl Model {
             room,
             text: Vec::new(),
             phase: Phase::Beginning,
-            broken: Vec::new(),
+            flags: Vec::new(),
             list_beginning: false,
             line_len: 0,
             spaces: 0,
@@ -60,13 +59,12 @@ impl Model {
         Ok(offset)
     }
 
-    /// 17 to 21, in the order in which they go before each other.
+    /// 17 to 20, in the order in which they go before each other.
     fn refusal(&self, call: &Call) -> Option<u8> {
         let ended = matches!(self.phase, Phase::Finished | Phase::Done);
         match call {
             Call::PutAtom(atom, _) if !is_atom(atom) => Some(17),
             Call::PutAtom(..) | Call::BeginList(_) if ended => Some(19),
-            Call::BeginList(_) if self.broken.len() == MOST_LISTS => Some(21),
             Call::EndList if self.phase == Phase::Beginning => Some(18),
             Call::EndList if ended => Some(19),
             Call::Finish(_) if self.phase == Phase::Done => Some(19),
@@ -129,8 +127,8 @@ impl Model {
                 self.line_len += 1;
             }
         } else {
-            self.new_line(self.broken.len());
-            if let Some(innermost) = self.broken.last_mut() {
+            self.new_line(self.flags.len());
+            if let Some(innermost) = self.flags.last_mut() {
                 *innermost = true;
             }
         }
@@ -147,16 +145,16 @@ impl Model {
             self.put_in_list(b"(", threshold)
         };
         self.list_beginning = true;
-        self.broken.push(false);
+        self.flags.push(false);
         offset
     }
 
     fn end_list(&mut self) -> usize {
-        let was_broken = self.broken.pop() == Some(true);
+        let was_broken = self.flags.pop() == Some(true);
         if was_broken {
-            self.new_line(self.broken.len());
+            self.new_line(self.flags.len());
         }
-        match self.broken.last_mut() {
+        match self.flags.last_mut() {
             Some(parent) => *parent |= was_broken,
             None => self.phase = Phase::Finished,
         }
@@ -165,23 +163,24 @@ impl Model {
         self.put(b")")
     }
 
+    /// The one number in place of the flags: how many of the open lists, counted from the outermost, have a break in them or in a list inside them.
+    pub fn broken(&self) -> usize {
+        self.flags.iter().rposition(|&on| on).map_or(0, |at| at + 1)
+    }
+
     /// The record as a line of replay has it.
     pub fn record(&self) -> String {
-        let flags: String = self
-            .broken
-            .iter()
-            .map(|&on| if on { '1' } else { '0' })
-            .collect();
         format!(
-            " | {} {} {} {} {} {} {} {} {flags}\n",
+            " | {} {} {} {} {} {} {} {} {}\n",
             self.text.len(),
             self.phase as u8,
-            self.broken.len(),
+            self.flags.len(),
             u8::from(self.list_beginning),
             self.line_len,
             self.spaces,
             self.breaks,
-            self.indents
+            self.indents,
+            self.broken()
         )
     }
 }

@@ -40,7 +40,6 @@ static const char *reason(uint32_t number) {
     case SISE_ILL_FORMED_CHR: return "bytes that are not UTF-8";
     case SISE_TEXT_TOO_LONG: return "too long";
     case SISE_NO_SUCH_NODE: return "no such node";
-    case SISE_TOO_DEEP: return "lists too deep to be written";
     case SISE_NO_ROOM: return "too long to be written";
     default: return "refused";
     }

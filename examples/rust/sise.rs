@@ -22,7 +22,6 @@ pub enum Refusal {
     NoListToEnd,
     WritingFinished,
     WritingNotFinished,
-    TooDeep,
     NoRoom,
 }
 
@@ -47,7 +46,6 @@ impl Refusal {
             18 => Self::NoListToEnd,
             19 => Self::WritingFinished,
             20 => Self::WritingNotFinished,
-            21 => Self::TooDeep,
             22 => Self::NoRoom,
             _ => unreachable!("no call is refused with {number}"),
         }
@@ -89,7 +87,6 @@ impl Display for Refusal {
             Self::NoListToEnd => of(f, 18, "no list to end"),
             Self::WritingFinished => of(f, 19, "the writing is finished"),
             Self::WritingNotFinished => of(f, 20, "the writing is not finished"),
-            Self::TooDeep => of(f, 21, "lists too deep to be written"),
             Self::NoRoom => of(f, 22, "too long to be written"),
         }
     }

@@ -10,12 +10,12 @@ use sise_c::sise_write_calls;
 ghost use mathlib.Core.Path.{_≡_};
 ghost use Rattle.sise_util.specs.Atom.{isAtom};
 ghost use Rattle.sise_serializer.specs.Serializer.{style};
+ghost use Rattle.sise_serializer.specs.Words.{WritesCalls};
 ghost use Rattle.sise_tree.specs.IndexPath.{indexPath};
 ghost use Rattle.sise_tree.specs.ParseText.{parseText};
 ghost use Rattle.sise_tree_writer.specs.Writing.{writeText};
 ghost use Rattle.sise_c.specs.Reports.{checked, Reports, sizeOf, ReportsSize};
 ghost use Rattle.sise_c.specs.Items.{readItems};
-ghost use Rattle.sise_c.specs.Written.{WritesCalls};
 
 // What a call answers beside its result: the answer and 0, or the refusal's place and code point.
 pub type Values = [u64; 2];

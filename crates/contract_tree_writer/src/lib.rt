@@ -4,14 +4,11 @@ use sise_serializer::Serializer;
 use sise_tree_writer::PutTree;
 use sise_tree_writer::TreeWrote;
 ghost use mathlib.Core.Path.{_≡_};
-ghost use mathlib.Core.List.{List};
-ghost use Prim.Native.Nat.{ℕ};
-ghost use lib.ListN.{length};
 ghost use Rattle.sise_serializer.specs.Serializer.{style};
 ghost use Rattle.sise_tree.specs.Answers.{numberOf};
 ghost use Rattle.sise_tree_writer.specs.Answers.{putAs};
-ghost use Rattle.sise_tree_writer.specs.SerializeTree.{serializeTree, DoesWrite, DoesMeasure};
-ghost use Rattle.sise_tree_writer.specs.Writing.{writeText};
+ghost use Rattle.sise_tree_writer.specs.SerializeTree.{serializeTree, DoesWrite};
+ghost use Rattle.sise_tree_writer.specs.Writing.{writeText, MeasuresText};
 ghost use Rattle.sise_tree_writer.specs.House.{houseAt, house};
 
 // ---- serialize.rt
@@ -81,7 +78,7 @@ pub fn measure_text(
     break_line_at: u64,
     final_break: bool,
 ) -> TreeWrote
-    ensures { λ r. ⌜ ((b : List ℕ) → length b ≡ room → DoesMeasure (writeText (style (now («line_break» .entry)) (now (indentation .entry))) b (now (text .entry)) (now (table .entry)) «break_line_at» «final_break») r) ⌝ }
+    ensures { λ r. ⌜ MeasuresText (style (now («line_break» .entry)) (now (indentation .entry))) room (now (text .entry)) (now (table .entry)) «break_line_at» «final_break» r ⌝ }
 {
     sise_tree_writer::measure_text(
         line_break,

@@ -1,20 +1,13 @@
 // The public calls of sise_serializer that write one item, and those about its record, under the contract that each has there and with a body that only
 // calls it: the promises of the library on one page, with contract_calls. An edit of must-fail/ puts a wrong program in the place of a body, and the
 // contract has to refuse it.
-use sise_serializer::Flags;
 use sise_serializer::Phase;
-use sise_serializer::Progress;
 use sise_serializer::Put;
 use sise_serializer::Serializer;
 use sise_serializer::Wrote;
 ghost use mathlib.Core.Path.{_≡_};
-ghost use mathlib.Core.Bool.{Bool};
-ghost use mathlib.Core.List.{List};
-ghost use lib.ListN.{length};
-ghost use Rattle.sise_serializer.specs.Serializer.{freshSerializer, style, isSound, answerAs, numberOf, Does, putAtom, beginList, endList, finishWriting, phaseAfter};
-ghost use Rattle.sise_serializer.specs.Steps.{joined};
-
-// ---- serializer.rt
+ghost use Rattle.sise_serializer.specs.Serializer.{freshSerializer, style, isSound, answerAs, numberOf, phaseAfter};
+ghost use Rattle.sise_serializer.specs.Calls.{Does, putAtomCall, beginListCall, endListCall, finishCall};
 
 // A writer before the first item, at the start of its buffer.
 pub fn new() -> Serializer
@@ -39,7 +32,7 @@ pub fn put_atom(
     atom: &[u8],
     break_line_at: u64,
 ) -> Wrote
-    ensures { λ r. ⌜ Does (putAtom (style (now («line_break» .entry)) (now (indentation .entry))) (length (now (buf .entry))) serializer (now (atom .entry)) «break_line_at») serializer (now (buf .entry)) r (now (buf .exit)) ⌝ }
+    ensures { λ r. ⌜ Does (putAtomCall (now (atom .entry)) «break_line_at») (style (now («line_break» .entry)) (now (indentation .entry))) serializer (now (buf .entry)) r (now (buf .exit)) ⌝ }
 {
     serializer.put_atom(line_break, indentation, buf, atom, break_line_at)
 }
@@ -52,7 +45,7 @@ pub fn begin_list(
     buf: &mut [u8],
     break_line_at: u64,
 ) -> Wrote
-    ensures { λ r. ⌜ Does (beginList (style (now («line_break» .entry)) (now (indentation .entry))) (length (now (buf .entry))) serializer «break_line_at») serializer (now (buf .entry)) r (now (buf .exit)) ⌝ }
+    ensures { λ r. ⌜ Does (beginListCall «break_line_at») (style (now («line_break» .entry)) (now (indentation .entry))) serializer (now (buf .entry)) r (now (buf .exit)) ⌝ }
 {
     serializer.begin_list(line_break, indentation, buf, break_line_at)
 }
@@ -64,7 +57,7 @@ pub fn end_list(
     indentation: &[u8],
     buf: &mut [u8],
 ) -> Wrote
-    ensures { λ r. ⌜ Does (endList (style (now («line_break» .entry)) (now (indentation .entry))) (length (now (buf .entry))) serializer) serializer (now (buf .entry)) r (now (buf .exit)) ⌝ }
+    ensures { λ r. ⌜ Does endListCall (style (now («line_break» .entry)) (now (indentation .entry))) serializer (now (buf .entry)) r (now (buf .exit)) ⌝ }
 {
     serializer.end_list(line_break, indentation, buf)
 }
@@ -77,7 +70,7 @@ pub fn finish(
     buf: &mut [u8],
     insert_line_break: bool,
 ) -> Wrote
-    ensures { λ r. ⌜ Does (finishWriting (style (now («line_break» .entry)) (now (indentation .entry))) (length (now (buf .entry))) serializer «insert_line_break») serializer (now (buf .entry)) r (now (buf .exit)) ⌝ }
+    ensures { λ r. ⌜ Does (finishCall «insert_line_break») (style (now («line_break» .entry)) (now (indentation .entry))) serializer (now (buf .entry)) r (now (buf .exit)) ⌝ }
 {
     serializer.finish(line_break, indentation, buf, insert_line_break)
 }
@@ -87,29 +80,6 @@ pub fn number(answer: Put) -> u32
     ensures { λ r. ⌜ r ≡ numberOf (answerAs answer) ⌝ }
 {
     answer.number()
-}
-
-// The record without its flags.
-pub fn progress(serializer: Serializer) -> Progress
-    ensures { λ r. ⌜ joined r (serializer .«line_broken») ≡ serializer ⌝ }
-{
-    serializer.progress()
-}
-
-// ---- steps.rt
-
-// The record of these parts and flags.
-pub fn join(progress: Progress, flags: Flags) -> Serializer
-    ensures { λ r. ⌜ r ≡ joined progress flags ⌝ }
-{
-    progress.join(flags)
-}
-
-// Whether a record of these parts is sound, whatever its flags.
-pub fn progress_is_sound(progress: Progress) -> bool
-    ensures { λ r. ⌜ ((flags : List Bool) → r ≡ isSound (joined progress flags)) ⌝ }
-{
-    progress.is_sound()
 }
 
 // The phase after a list was closed inside `lists` open lists.

@@ -1,4 +1,4 @@
-// Rows of the table of refusals.
+// Rows of the table of refusals, and lists in each other.
 use crate::line::put_refused;
 use crate::line::put_value;
 use lines::Block;
@@ -109,7 +109,6 @@ pub(crate) fn put_rows(out: &mut Block, at: usize) -> usize {
     let at = table_full(out, at);
     let at = no_tree(out, at);
     let at = not_finished(out, at);
-    let at = put_put(out, at, b"list 200", nested(200));
-    let at = put_put(out, at, b"row 21", nested(201));
+    let at = put_put(out, at, b"list 250", nested(250));
     no_room(out, at)
 }

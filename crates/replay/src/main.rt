@@ -15,9 +15,9 @@
 // `( T` (begin_list); `) 0` (end_list); `F 1` or `F 0` (finish, with a final line break or without); and a line end after each. T is the threshold,
 // 999999999 standing for the largest of 64 bits. All calls write into one buffer of R bytes, 0xAA at first: the first call gets a fresh record, each
 // later one the record that the last left. Printed is the line `case`; for each call the line
-//     ANSWER | position phase lists list_beginning line_len spaces breaks indents FLAGS
-// with the record after the call, its phase 0 (beginning), 1 (writing), 2 (finished) or 3 (done), a truth as 0 or 1, and a digit for the flag of each
-// open list, outermost first, where ANSWER is `@ offset` or `! number`; and last `= `, the buffer's bytes up to the position, and a line end.
+//     ANSWER | position phase lists list_beginning line_len spaces breaks indents broken
+// with the record after the call, its phase 0 (beginning), 1 (writing), 2 (finished) or 3 (done), and a truth as 0 or 1, where ANSWER is `@ offset` or
+// `! number`; and last `= `, the buffer's bytes up to the position, and a line end.
 //
 // T, trees: the line `T N K W`, then the N bytes of a text, then a line end; the line `W R B I S` with a style after it, as in a writer's case; the
 // line `P Q T O J`; a list of stores; and J lists, the paths. W is at most 4096, O at most W. A list is its count, at most 256, and its numbers, a

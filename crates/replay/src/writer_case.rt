@@ -38,25 +38,12 @@ fn bit(on: bool) -> u8 {
     if on { b'1' } else { b'0' }
 }
 
-// Puts the flags of the open lists, of which there are 200 at most.
-fn put_flags(out: &mut Block, from: usize, flags: [bool; 200], lists: usize) -> usize {
-    let mut at = from;
-    let mut i = 0;
-    while i < 200 {
-        if lists <= i {
-            return at;
-        }
-        at = lines::put_byte(out, at, bit(flags[i]));
-        i += 1;
-    }
-    at
-}
-
 fn put_counts(out: &mut Block, at: usize, serializer: Serializer) -> usize {
     let at = put_number(out, at, serializer.line_len);
     let at = put_number(out, at, serializer.spaces);
     let at = put_number(out, at, serializer.breaks);
-    put_number(out, at, serializer.indents)
+    let at = put_number(out, at, serializer.indents);
+    put_number(out, at, serializer.broken)
 }
 
 fn put_state(out: &mut Block, at: usize, serializer: Serializer) -> usize {
@@ -69,12 +56,9 @@ fn put_state(out: &mut Block, at: usize, serializer: Serializer) -> usize {
 }
 
 pub(crate) fn put_serializer(out: &mut Block, at: usize, serializer: Serializer) -> usize {
-    let flags = serializer.line_broken;
     let at = lines::put_bytes(out, at, b" |");
     let at = put_state(out, at, serializer);
-    let at = put_counts(out, at, serializer);
-    let at = lines::put_byte(out, at, b' ');
-    put_flags(out, at, flags, serializer.lists)
+    put_counts(out, at, serializer)
 }
 
 // The line of a call that left the record `serializer`.

@@ -46,15 +46,14 @@ indexed-refusal indexed.TextTooLong k = record { result = refl; values = refl }
 indexed-refusal indexed.NotATree k = record { result = refl; values = refl }
 indexed-refusal indexed.NoSuchNode k = record { result = refl; values = refl }
 
-pub put-refusal : (n : ℕ) (a : PutTree) → OneOf (1 ∷ 2 ∷ 3 ∷ 4 ∷ 5 ∷ 6 ∷ 7 ∷ []) (tagOf puts.the-type a)
+pub put-refusal : (n : ℕ) (a : PutTree) → OneOf (1 ∷ 2 ∷ 3 ∷ 4 ∷ 5 ∷ 6 ∷ []) (tagOf puts.the-type a)
     → Reports (sizeOr n (putAs a)) (numberOf (putAs a)) (0 ∷ 0 ∷ [])
-put-refusal n (put.At o) k = absurd (no-zero 0 (1 ∷ 2 ∷ 3 ∷ 4 ∷ 5 ∷ 6 ∷ []) k)
+put-refusal n (put.At o) k = absurd (no-zero 0 (1 ∷ 2 ∷ 3 ∷ 4 ∷ 5 ∷ []) k)
 put-refusal n put.TextTooLong k = record { result = refl; values = refl }
 put-refusal n put.UnsoundRecord k = record { result = refl; values = refl }
 put-refusal n put.NotATree k = record { result = refl; values = refl }
 put-refusal n put.InvalidAtom k = record { result = refl; values = refl }
 put-refusal n put.WritingFinished k = record { result = refl; values = refl }
-put-refusal n put.TooDeep k = record { result = refl; values = refl }
 put-refusal n put.NoRoom k = record { result = refl; values = refl }
 
 -- a refusal's number, place and code point, as the three methods give them

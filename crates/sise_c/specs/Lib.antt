@@ -2,4 +2,3 @@ pub mod Reports
 pub mod Items
 pub mod ItemExamples
 pub mod Passes
-pub mod Written

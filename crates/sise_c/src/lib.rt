@@ -22,12 +22,12 @@ use sise_util::check_atom;
 ghost use mathlib.Core.Path.{_≡_};
 ghost use Rattle.sise_util.specs.Atom.{isAtom};
 ghost use Rattle.sise_serializer.specs.Serializer.{style};
+ghost use Rattle.sise_serializer.specs.Words.{WritesCalls};
 ghost use Rattle.sise_tree.specs.IndexPath.{indexPath};
 ghost use Rattle.sise_tree.specs.ParseText.{parseText};
 ghost use Rattle.sise_tree_writer.specs.Writing.{writeText};
 ghost use Rattle.sise_c.specs.Reports.{checked, Reports, sizeOf, ReportsSize};
 ghost use Rattle.sise_c.specs.Items.{readItems};
-ghost use Rattle.sise_c.specs.Written.{WritesCalls};
 
 // Whether the bytes are an atom: 0 or 17.
 #[no_mangle]

@@ -39,7 +39,7 @@ unfolding firstAtom firstList inner innerAs close closeAs last
 after-end (atomAlone f h) = omega arith
 after-end (atomInside f h) = refl
 after-end (listFirst f) = omega arith
-after-end (listInside f h) = refl
+after-end (listInside f) = refl
 after-end (listClosed f) = refl
 after-end (textEnded f) = omega arith
 

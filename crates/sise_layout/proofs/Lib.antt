@@ -14,3 +14,4 @@ pub mod Demand3
 pub mod Made
 pub mod Sound
 pub mod Refused
+pub mod Flags

@@ -8,11 +8,13 @@ use Rattle.sise_serializer.specs.declared.serializer.Phase.{Phase}
 use Rattle.sise_serializer.specs.declared.serializer.Phase.the-variants.{Beginning, Writing, Finished, Done}
 use Rattle.sise_serializer.specs.declared.serializer.Serializer.{Serializer}
 use Rattle.sise_serializer.specs.Calls.{Call, Item, listStart, listEnd, itemsOf, itemOf, step}
+use Rattle.sise_serializer.proofs.Sound.{Sound, sound}
+use Rattle.sise_serializer.proofs.Kept.{fresh-sound}
 use Rattle.sise_layout.specs.Rules.{writes}
 use Rattle.sise_layout.specs.Nodes.{Node, Nodes, leaf, list, none, more}
-use Rattle.sise_layout.proofs.Pieces.{Aligned, Turns, only, begins, holds, deepens, shallower, ending}
+use Rattle.sise_layout.proofs.Pieces.{Turns, only, begins, holds, deepens, shallower, ending}
 use Rattle.sise_layout.proofs.Outcomes.{Outcome, same, adds, ends, outcome}
-use Rattle.sise_layout.proofs.Written.{fresh-aligned, last-aligned, last-done}
+use Rattle.sise_layout.proofs.Written.{last-done}
 
 -- the rest of a text in which n lists are open: each list's nodes and its end, the innermost first
 data Closes : ℕ → List Item → Type 0 where
@@ -48,14 +50,14 @@ spell-step is ending e = rw e (closes none all)
 
 module _ (s : Style) (room : ℕ) where
   abbrev Spelled : List Call → Type 0
-  Spelled cs = (w : Serializer) → Aligned w → writes s room w cs .last .phase ≡ Done → Spells (w .phase) (w .lists) (itemsOf (writes s room w cs .items))
+  Spelled cs = (w : Serializer) → Sound w → writes s room w cs .last .phase ≡ Done → Spells (w .phase) (w .lists) (itemsOf (writes s room w cs .items))
 
-  spelled-step : (cs : List Call) → Spelled cs → (w : Serializer) → Aligned w → (c : Call) (r : Written) → Outcome s room w c r
+  spelled-step : (cs : List Call) → Spelled cs → (w : Serializer) → Sound w → (c : Call) (r : Written) → Outcome s room w c r
       → writes s room (r .serializer) cs .last .phase ≡ Done → Spells (w .phase) (w .lists) (itemsOf (itemOf c (r .answer) ++ writes s room (r .serializer) cs .items))
   unfolding last
   spelled-step cs h w i c r (same n) d = h w i d
-  spelled-step cs h w i c r (adds k p a e) d = rw e (spell-step _ (a .turns) (h (p .after) (a .aligned) d))
-  spelled-step cs h w i c r (ends wished f e) d = rw (e, f) (rw (last-done s w wished) at (h (last s w wished .after) (last-aligned s w wished i f) d))
+  spelled-step cs h w i c r (adds k p a x e) d = rw e (spell-step _ (a .turns) (h (p .after) x d))
+  spelled-step cs h w i c r (ends wished f x e) d = rw (e, f) (rw (last-done s w wished) at (h (last s w wished .after) x d))
 
   spelled : (cs : List Call) → Spelled cs
   unfolding writes
@@ -64,4 +66,4 @@ module _ (s : Style) (room : ℕ) where
 
   pub one-node : (cs : List Call) → writes s room freshSerializer cs .last .phase ≡ Done → Node (itemsOf (writes s room freshSerializer cs .items))
   unfolding freshSerializer
-  one-node cs d = spelled cs freshSerializer fresh-aligned d
+  one-node cs d = spelled cs freshSerializer (sound freshSerializer fresh-sound) d

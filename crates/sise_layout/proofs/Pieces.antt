@@ -7,8 +7,8 @@ use mathlib.Core.Path.{_≡_, refl, sym}
 use mathlib.Core.Bool.{Bool, true, false, not, cond, false≢true}
 use mathlib.Core.List.{List, [], _∷_, _++_, append-assoc}
 use lib.Dec.{eqb, ltb}
-use lib.ListN.{length, getD}
-use borrow.Author.Tests.{eqb-true, eqb-false, leb-true, ne-eqb, le-leb}
+use lib.ListN.{length}
+use borrow.Author.Tests.{eqb-true, eqb-false, leb-true, ne-eqb}
 use Rattle.sise_util.specs.Chars.{oneOf}
 use Rattle.sise_util.specs.Classes.{classOf}
 use Rattle.sise_util.specs.Atom.{isAtom}
@@ -17,11 +17,12 @@ use Rattle.sise_parser.specs.Lexer.{found}
 use Rattle.sise_parser.specs.Reader.{next, reader, inBeginning, inParsing}
 use Rattle.sise_parser.specs.declared.reader.Phase as readerPhase
 use Rattle.sise_parser.specs.declared.reader.Phase.the-variants as at
-use Rattle.sise_serializer.specs.Serializer.{Style, Piece, listsFit, firstAtom, firstList, Gap, newLine, nothing, space, gapAt, newLineOf, laid, innerAs, inner, phaseAfter, closeAs, close}
+use Rattle.sise_serializer.specs.Serializer.{Style, Piece, firstAtom, firstList, Gap, newLine, nothing, space, gapAt, newLineOf, laid, innerAs, inner, phaseAfter, closeAs, close}
 use Rattle.sise_serializer.specs.declared.serializer.Phase.{Phase}
 use Rattle.sise_serializer.specs.declared.serializer.Phase.the-variants.{Beginning, Writing, Finished, Done}
 use Rattle.sise_serializer.specs.declared.serializer.Serializer.{Serializer}
 use Rattle.sise_serializer.specs.Calls.{Item, atom, listStart, listEnd, placed}
+use Rattle.sise_serializer.proofs.Sound.{Sound}
 use Rattle.sise_layout.specs.Texts.{allBlank, Blank}
 use Rattle.sise_layout.specs.Reading.{asRead}
 use Rattle.sise_layout.proofs.Lexing.{stops, token, lexeme, isItem, mayPrecede}
@@ -34,11 +35,6 @@ phaseOf Beginning = at.Beginning
 phaseOf Writing = at.Parsing
 phaseOf Finished = at.Finishing
 phaseOf Done = at.Finishing
-
--- the open lists are as many as the phase says, and each has its byte
-pub record Aligned (w : Serializer) : Type 0 where
-  pub fit : listsFit (w .phase) (w .lists) ≡ true
-  pub small : w .lists ≤ w .position
 
 -- whatever is written next ends an atom
 abbrev settledIn : Phase → Bool → Bool
@@ -80,15 +76,14 @@ pub record Adds (s : Style) (w : Serializer) (i : Item) (p : Piece) : Type 0 whe
   pub position : p .after .position ≡ w .position + length (p .layout) + length (p .token)
   pub going : Going (phaseOf (w .phase))
   pub taken : (o q : ℕ) → taken (phaseOf (w .phase)) (w .lists) (found (lexeme i) o q) ≡ next (reader q (phaseOf (p .after .phase)) (p .after .lists)) (asRead (placed i o))
-  pub aligned : Aligned (p .after)
   pub follow : (r : List ℕ) → (settled (p .after) ≡ true → stops r ≡ true) → mayPrecede i r ≡ true
   pub apart : Blank s → settled w ≡ true → (r : List ℕ) → stops (p .layout ++ p .token ++ r) ≡ true
   pub turns : Turns (w .phase) (w .lists) i (p .after .phase) (p .after .lists)
   pub paid : length (p .layout) + length (p .token) + layoutOf s w + p .after .lists ≡ itemBytes i + layoutOf s (p .after) + w .lists
 
-module _ (s : Style) (w : Serializer) (i : Aligned w) (f : w .phase ≡ Beginning) where
+module _ (s : Style) (w : Serializer) (i : Sound w) (f : w .phase ≡ Beginning) where
   none-open : w .lists ≡ 0
-  none-open = eqb-true (w .lists) 0 (rw f at (i .fit))
+  none-open = eqb-true (w .lists) 0 (rw f at (i .checked .opens))
 
   going-first : Going (phaseOf (w .phase))
   going-first = rw f first
@@ -102,7 +97,6 @@ module _ (s : Style) (w : Serializer) (i : Aligned w) (f : w .phase ≡ Beginnin
     position = omega arith;
     going = going-first;
     taken = λ o q. rw (f, none-open) refl;
-    aligned = record { fit = refl; small = omega arith };
     follow = λ r g. g refl;
     apart = λ b g. absurd (false≢true (rw f at g));
     turns = rw (f, none-open) (only a);
@@ -118,7 +112,6 @@ module _ (s : Style) (w : Serializer) (i : Aligned w) (f : w .phase ≡ Beginnin
     position = omega arith;
     going = going-first;
     taken = λ o q. rw f refl;
-    aligned = record { fit = refl; small = omega arith };
     follow = λ r g. refl;
     apart = λ b g. absurd (false≢true (rw f at g));
     turns = rw (f, none-open) begins;
@@ -153,7 +146,7 @@ module _ (s : Style) (w : Serializer) where
   some-gap : (t : ℕ) → w .«list_beginning» ≡ false → isNothing (gapAt w t) ≡ false
   some-gap t e = split (ltb (w .«line_len») t) (λ d. rw (d, e)) (λ d. rw d)
 
-module _ (s : Style) (w : Serializer) (t : ℕ) (i : Aligned w) (f : w .phase ≡ Writing) where
+module _ (s : Style) (w : Serializer) (t : ℕ) (i : Sound w) (f : w .phase ≡ Writing) where
   abbrev gap : Gap
   gap = gapAt w t
 
@@ -165,7 +158,7 @@ module _ (s : Style) (w : Serializer) (t : ℕ) (i : Aligned w) (f : w .phase �
   some-lists P h = go (w .lists) refl
     where
       go : (n : ℕ) → w .lists ≡ n → P n
-      go zero e = absurd (false≢true (rw (f, e) at (i .fit)))
+      go zero e = absurd (false≢true (rw (f, e) at (i .checked .opens)))
       go (suc m) e = h m
 
   not-beginning : settled w ≡ true → w .«list_beginning» ≡ false
@@ -183,7 +176,6 @@ module _ (s : Style) (w : Serializer) (t : ℕ) (i : Aligned w) (f : w .phase �
     position = refl;
     going = going-inside;
     taken = λ o q. rw f refl;
-    aligned = record { fit = rw f at (i .fit); small = omega (arith, i .small) };
     follow = λ r g. g refl;
     apart = inner-apart a;
     turns = rw f (some-lists (λ n. Turns Writing n (atom a) Writing n) (λ m. holds a));
@@ -199,7 +191,6 @@ module _ (s : Style) (w : Serializer) (t : ℕ) (i : Aligned w) (f : w .phase �
     position = refl;
     going = going-inside;
     taken = λ o q. rw f refl;
-    aligned = record { fit = le-leb 1 (w .lists + 1) (omega arith); small = omega (arith, i .small) };
     follow = λ r g. refl;
     apart = inner-apart (40 ∷ []);
     turns = rw f (some-lists (λ n. Turns Writing n listStart Writing (n + 1)) (λ m. rw add-one deepens));
@@ -207,9 +198,9 @@ module _ (s : Style) (w : Serializer) (t : ℕ) (i : Aligned w) (f : w .phase �
   }
 
 -- the close of a list, broken or not
-module _ (s : Style) (w : Serializer) (i : Aligned w) (f : w .phase ≡ Writing) where
+module _ (s : Style) (w : Serializer) (i : Sound w) (f : w .phase ≡ Writing) where
   one-open : 1 ≤ w .lists
-  one-open = leb-true 1 (w .lists) (rw f at (i .fit))
+  one-open = leb-true 1 (w .lists) (rw f at (i .checked .opens))
 
   after-last : w .lists ≡ 1 → phaseAfter (w .lists - 1) ≡ Finished
   unfolding phaseAfter
@@ -229,12 +220,6 @@ module _ (s : Style) (w : Serializer) (i : Aligned w) (f : w .phase ≡ Writing)
       split (eqb (w .lists) 1)
       (λ e. let n : w .lists ≡ 1 = eqb-true (w .lists) 1 e in rw (after-last n, f, n))
       (λ e. let n : 1 < w .lists = omega (arith, eqb-false (w .lists) 1 e, one-open) in rw (after-inner n, f, e))
-
-  close-fit : listsFit (phaseAfter (w .lists - 1)) (w .lists - 1) ≡ true
-  close-fit =
-      split (eqb (w .lists) 1)
-      (λ e. let n : w .lists ≡ 1 = eqb-true (w .lists) 1 e in rw (after-last n, n))
-      (λ e. let n : 1 < w .lists = omega (arith, eqb-false (w .lists) 1 e, one-open) in rw (after-inner n) (le-leb 1 (w .lists - 1) (omega arith)))
 
   close-turns : Turns Writing (w .lists) listEnd (phaseAfter (w .lists - 1)) (w .lists - 1)
   close-turns = go (w .lists) refl
@@ -267,7 +252,6 @@ module _ (s : Style) (w : Serializer) (i : Aligned w) (f : w .phase ≡ Writing)
     position = refl;
     going = rw f inside;
     taken = close-taken;
-    aligned = record { fit = close-fit; small = omega (arith, i .small) };
     follow = λ r g. refl;
     apart = λ bl g. close-apart b bl;
     turns = rw f close-turns;
@@ -276,4 +260,4 @@ module _ (s : Style) (w : Serializer) (i : Aligned w) (f : w .phase ≡ Writing)
 
   pub close-list : Adds s w listEnd (close s w)
   unfolding close
-  close-list = close-adds (getD (w .«line_broken») (w .lists - 1) false)
+  close-list = close-adds (eqb (w .broken) (w .lists))

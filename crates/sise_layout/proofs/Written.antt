@@ -6,24 +6,16 @@ use mathlib.Core.Path.{_≡_, refl, ap, _∙_}
 use mathlib.Core.Bool.{Bool, true, false}
 use mathlib.Core.List.{List, [], _++_, append-assoc}
 use lib.ListN.{length}
-use Rattle.sise_serializer.specs.Serializer.{Style, last, freshSerializer}
-use Rattle.sise_serializer.specs.declared.serializer.Phase.the-variants.{Finished, Done}
+use Rattle.sise_serializer.specs.Serializer.{Style, last}
+use Rattle.sise_serializer.specs.declared.serializer.Phase.the-variants.{Done}
 use Rattle.sise_serializer.specs.declared.serializer.Serializer.{Serializer}
 use Rattle.sise_layout.specs.Texts.{allBlank, Blank}
 unfoldable pub use Rattle.sise_layout.specs.Rules.{writes}
 use Rattle.sise_layout.proofs.Lexing.{stops}
 use Rattle.sise_layout.proofs.Blanks.{append-blank, blanks-stop}
-use Rattle.sise_layout.proofs.Pieces.{Aligned, layoutOf}
-
-pub fresh-aligned : Aligned freshSerializer
-unfolding freshSerializer
-fresh-aligned = record { fit = refl; small = omega arith }
+use Rattle.sise_layout.proofs.Pieces.{layoutOf}
 
 module _ (s : Style) (w : Serializer) where
-  pub last-aligned : (wished : Bool) → Aligned w → w .phase ≡ Finished → Aligned (last s w wished .after)
-  unfolding last
-  last-aligned wished i f = record { fit = rw f at (i .fit); small = omega (arith, i .small) }
-
   pub last-blank : (wished : Bool) → Blank s → allBlank (last s w wished .layout ++ last s w wished .token) ≡ true
   unfolding last
   last-blank true b = append-blank (s .lineBreak) [] (b .lineBreak) refl

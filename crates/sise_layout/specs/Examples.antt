@@ -12,7 +12,7 @@ use Rattle.sise_util.specs.Classes.{classOf}
 use Rattle.sise_util.specs.Atom.{isAtom, outside, inside, escaped}
 use Rattle.sise_serializer.specs.Bytes.{pasted}
 use Rattle.sise_serializer.specs.Examples.{house}
-use Rattle.sise_serializer.specs.Serializer.{accepted, freshSerializer, isSound, place, firstAtom, firstList, laid, innerAs, inner, phaseAfter, flagsAfter, closeAs, close, last, putIn, putAtom, beginIn, beginList, endIn, endList, finishIn, finishWriting}
+use Rattle.sise_serializer.specs.Serializer.{accepted, freshSerializer, isSound, place, firstAtom, firstList, laid, innerAs, inner, phaseAfter, closeAs, close, last, putIn, putAtom, beginIn, beginList, endIn, endList, finishIn, finishWriting}
 use Rattle.sise_serializer.specs.declared.serializer.Put.the-variants.{At}
 use Rattle.sise_serializer.specs.declared.serializer.Phase.{Phase}
 use Rattle.sise_serializer.specs.declared.serializer.Phase.the-variants.{Done}
@@ -68,7 +68,7 @@ pub at-4 : shown (writing house used (worked 4)) ≡ record {
   counts = 0 ∷ 5 ∷ 4 ∷ [];
   phase = Done;
 }
-unfolding shown house worked workedItems used run step itemAt pasted freshSerializer isSound place firstAtom firstList laid innerAs inner phaseAfter flagsAfter closeAs close last putIn putAtom beginIn beginList endIn endList finishIn finishWriting isAtom outside inside escaped classOf isAtomChr marks oneOf within
+unfolding shown house worked workedItems used run step itemAt pasted freshSerializer isSound place firstAtom firstList laid innerAs inner phaseAfter closeAs close last putIn putAtom beginIn beginList endIn endList finishIn finishWriting isAtom outside inside escaped classOf isAtomChr marks oneOf within
 at-4 = refl
 
 -- `(z⏎  (1 22)⏎)⏎`: 14 bytes
@@ -79,7 +79,7 @@ pub at-5 : shown (writing house used (worked 5)) ≡ record {
   counts = 1 ∷ 3 ∷ 1 ∷ [];
   phase = Done;
 }
-unfolding shown house worked workedItems used run step itemAt pasted freshSerializer isSound place firstAtom firstList laid innerAs inner phaseAfter flagsAfter closeAs close last putIn putAtom beginIn beginList endIn endList finishIn finishWriting isAtom outside inside escaped classOf isAtomChr marks oneOf within
+unfolding shown house worked workedItems used run step itemAt pasted freshSerializer isSound place firstAtom firstList laid innerAs inner phaseAfter closeAs close last putIn putAtom beginIn beginList endIn endList finishIn finishWriting isAtom outside inside escaped classOf isAtomChr marks oneOf within
 at-5 = refl
 
 -- a list broken by an item, in a list that no item of its own breaks; then `b` at t and `c` at u, and `(d)`, which nothing breaks
@@ -109,7 +109,7 @@ child-texts : childTexts
     ∷ (40 ∷ 40 ∷ 10 ∷ 32 ∷ 32 ∷ 32 ∷ 32 ∷ 97 ∷ 10 ∷ 32 ∷ 32 ∷ 41 ∷ 32 ∷ 98 ∷ 10 ∷ 32 ∷ 32 ∷ 99 ∷ 32 ∷ 40 ∷ 100 ∷ 41 ∷ 10 ∷ 41 ∷ [])
     ∷ (40 ∷ 40 ∷ 10 ∷ 32 ∷ 32 ∷ 32 ∷ 32 ∷ 97 ∷ 10 ∷ 32 ∷ 32 ∷ 41 ∷ 10 ∷ 32 ∷ 32 ∷ 98 ∷ 32 ∷ 99 ∷ 32 ∷ 40 ∷ 100 ∷ 41 ∷ 10 ∷ 41 ∷ [])
     ∷ []
-unfolding childTexts childThen house used run step itemAt pasted freshSerializer isSound place firstAtom firstList laid innerAs inner phaseAfter flagsAfter closeAs close last putIn putAtom beginIn beginList endIn endList finishIn finishWriting isAtom outside inside escaped classOf isAtomChr marks oneOf within
+unfolding childTexts childThen house used run step itemAt pasted freshSerializer isSound place firstAtom firstList laid innerAs inner phaseAfter closeAs close last putIn putAtom beginIn beginList endIn endList finishIn finishWriting isAtom outside inside escaped classOf isAtomChr marks oneOf within
 child-texts = refl
 
 pub house-blank : Blank house
@@ -117,11 +117,11 @@ unfolding house oneOf
 house-blank = record { notEmpty = lit< tt; lineBreak = refl; indentation = refl }
 
 pub at-4-finishes : Finishes house used (worked 4)
-unfolding house worked used run step itemAt pasted freshSerializer isSound place firstAtom firstList laid innerAs inner phaseAfter flagsAfter closeAs close last putIn putAtom beginIn beginList endIn endList finishIn finishWriting isAtom outside inside escaped classOf isAtomChr marks oneOf within
+unfolding house worked used run step itemAt pasted freshSerializer isSound place firstAtom firstList laid innerAs inner phaseAfter closeAs close last putIn putAtom beginIn beginList endIn endList finishIn finishWriting isAtom outside inside escaped classOf isAtomChr marks oneOf within
 at-4-finishes = later (later (later (later (later (later (later (later here)))))))
 
 pub at-5-finishes : Finishes house used (worked 5)
-unfolding house worked used run step itemAt pasted freshSerializer isSound place firstAtom firstList laid innerAs inner phaseAfter flagsAfter closeAs close last putIn putAtom beginIn beginList endIn endList finishIn finishWriting isAtom outside inside escaped classOf isAtomChr marks oneOf within
+unfolding house worked used run step itemAt pasted freshSerializer isSound place firstAtom firstList laid innerAs inner phaseAfter closeAs close last putIn putAtom beginIn beginList endIn endList finishIn finishWriting isAtom outside inside escaped classOf isAtomChr marks oneOf within
 at-5-finishes = later (later (later (later (later (later (later (later here)))))))
 
 -- the records of `a` put into a fresh writer, and of finish after it

@@ -1,4 +1,5 @@
 pub mod Texts
+pub mod Flags
 pub mod Rules
 pub mod Made
 pub mod Reading

@@ -9,7 +9,7 @@ use lib.ListN.{length, take}
 use Rattle.sise_util.specs.Chars.{oneOf}
 use Rattle.sise_util.specs.Atom.{isAtom}
 use Rattle.sise_serializer.specs.Bytes.{pasted}
-use Rattle.sise_serializer.specs.Serializer.{Style, Answer, accepted, refused, Written}
+use Rattle.sise_serializer.specs.Serializer.{Style, Answer, accepted, refused, Written, freshSerializer}
 use Rattle.sise_serializer.specs.Calls.{Call, putAtomCall, beginListCall, endListCall, finishCall, step, isAccepted, Item, atom, listStart, listEnd, Run, run, writing}
 use Rattle.sise_serializer.specs.declared.serializer.Serializer.{Serializer}
 
@@ -73,6 +73,11 @@ lists [] = 0
 lists (atom a ∷ is) = lists is
 lists (listStart ∷ is) = 1 + lists is
 lists (listEnd ∷ is) = lists is
+
+-- "the reachable records": a fresh one, and what a call leaves of one, with any style and a buffer of any length
+pub data Reachable : Serializer → Type 0 where
+  fresh : Reachable freshSerializer
+  after : {w : Serializer} → Reachable w → (s : Style) (room : ℕ) (c : Call) → Reachable (step s room w c .serializer)
 
 -- a call with a style and a buffer, of room bytes, of its own
 pub record Styled : Type 0 where

@@ -13,19 +13,18 @@ use lib.ListN.{length, getD, take, drop, set, length-drop, length-set}
 use lib.Seq.{take-nil, drop-cons, take-suc-set, drop-set-lt, append-snoc}
 use types.Run.{OneOf}
 use denote.Enum.Declared.{tagOf}
-use borrow.Author.Tests.{leb-true, leb-false, le-leb, lt-leb, eq-eqb, ne-eqb, eqb-true, eqb-false}
+use borrow.Author.Tests.{leb-true, leb-false, le-leb, lt-leb, eq-eqb, ne-eqb}
 use Rattle.sise_parser.specs.Reader.{partOf}
 use Rattle.sise_util.proofs.Ranges.{split, and-first, and-second}
 use Rattle.sise_serializer.specs.Bytes.{pasted}
 use Rattle.sise_serializer.specs.Serializer.{Style, answerAs, numberOf, freshSerializer, isSound}
-use Rattle.sise_serializer.specs.Steps.{putItem}
 use Rattle.sise_serializer.specs.declared.serializer.Serializer.{Serializer}
 use Rattle.sise_serializer.specs.declared.serializer.Put.{Put}
-use Rattle.sise_serializer.specs.declared.serializer.Put.the-variants.{At, UnsoundRecord, InvalidAtom, NoListToEnd, WritingFinished, WritingNotFinished, TooDeep, NoRoom}
+use Rattle.sise_serializer.specs.declared.serializer.Put.the-variants.{At, UnsoundRecord, InvalidAtom, NoListToEnd, WritingFinished, WritingNotFinished, NoRoom}
 use Rattle.sise_serializer.proofs.serializer.Put as puts
 use Rattle.sise_serializer.proofs.Bytes.{pasted-none}
 use Rattle.sise_serializer.proofs.Kept.{fresh-sound, sound-kept}
-use Rattle.sise_serializer.specs.Calls.{Call, putAtomCall, beginListCall, endListCall, finishCall, step, run, writing}
+use Rattle.sise_serializer.specs.Calls.{Call, putAtomCall, beginListCall, endListCall, finishCall, step, run}
 use Rattle.sise_serializer.specs.Words.{callOf, callAt, hasCall, decoded, callsOf, answerWord, Runs}
 
 -- ---- the call of a kind
@@ -33,11 +32,6 @@ use Rattle.sise_serializer.specs.Words.{callOf, callAt, hasCall, decoded
 finish-by : (b : Bool) → cond b (finishCall false) (finishCall true) ≡ finishCall (not b)
 finish-by true = refl
 finish-by false = refl
-
-below-two : (n : ℕ) → n < 2 → (n ≡ 1 → ⊥) → n ≡ 0
-below-two zero h f = refl
-below-two (suc zero) h f = absurd (f refl)
-below-two (suc (suc n)) h f = absurd (omega arith)
 
 module _ (words atoms : List ℕ) (at : ℕ) where
   pub call-atom : getD words at 0 ≡ 0 → callAt words atoms at ≡ putAtomCall (partOf atoms (getD words (at + 1) 0) (getD words (at + 2) 0)) (getD words (at + 3) 0)
@@ -47,15 +41,6 @@ module _ (words atoms : List ℕ) (at : ℕ) where
   pub call-begin : (getD words at 0 ≡ 0 → ⊥) → getD words at 0 ≡ 1 → callAt words atoms at ≡ beginListCall (getD words (at + 3) 0)
   unfolding callOf
   call-begin a e = rw (ne-eqb _ _ a, eq-eqb _ _ e)
-
-  -- an atom's call or a list's
-  pub call-item : (s : Style) (room : ℕ) (w : Serializer) → getD words at 0 < 2
-      → step s room w (callAt words atoms at) ≡ putItem s room w (partOf atoms (getD words (at + 1) 0) (getD words (at + 2) 0)) (eqb (getD words at 0) 1) (getD words (at + 3) 0)
-  unfolding step putItem
-  call-item s room w h =
-      split (eqb (getD words at 0) 1)
-      (λ e. let one = eqb-true _ _ e in rw (call-begin (λ z. absurd (omega arith)) one, e))
-      (λ e. rw (call-atom (below-two _ h (eqb-false _ _ e)), e))
 
   pub call-end : (getD words at 0 ≡ 0 → ⊥) → (getD words at 0 ≡ 1 → ⊥) → getD words at 0 ≡ 2 → callAt words atoms at ≡ endListCall
   unfolding callOf
@@ -140,14 +125,13 @@ no-zero k [] e = omega arith
 no-zero k (j ∷ l) e = ⊎-elim (λ (z : 0 ≡ suc k). omega arith) (no-zero j l) e
 
 -- every answer but an offset is a refusal
-pub refusal-word : (p : Put) → OneOf (1 ∷ 2 ∷ 3 ∷ 4 ∷ 5 ∷ 6 ∷ 7 ∷ []) (tagOf puts.the-type p) → 2 ^ 32 + numberOf (answerAs p) ≡ answerWord (answerAs p)
-refusal-word (At o) k = absurd (no-zero 0 (1 ∷ 2 ∷ 3 ∷ 4 ∷ 5 ∷ 6 ∷ []) k)
+pub refusal-word : (p : Put) → OneOf (1 ∷ 2 ∷ 3 ∷ 4 ∷ 5 ∷ 6 ∷ []) (tagOf puts.the-type p) → 2 ^ 32 + numberOf (answerAs p) ≡ answerWord (answerAs p)
+refusal-word (At o) k = absurd (no-zero 0 (1 ∷ 2 ∷ 3 ∷ 4 ∷ 5 ∷ []) k)
 refusal-word UnsoundRecord k = refl
 refusal-word InvalidAtom k = refl
 refusal-word NoListToEnd k = refl
 refusal-word WritingFinished k = refl
 refusal-word WritingNotFinished k = refl
-refusal-word TooDeep k = refl
 refusal-word NoRoom k = refl
 
 -- ---- running
@@ -205,7 +189,7 @@ start s words atoms b a w e =
 
 module _ {s : Style} {words atoms b₀ a₀ b a : List ℕ} {w : Serializer} {k at : ℕ} (l : Left s words atoms b₀ a₀ b a w k at) where
   -- nothing is left
-  finished : take (length a₀ - k) (decoded (drop at words) atoms) ≡ [] → Runs (writing s b₀ (callsOf words atoms (length a₀))) (callsOf words atoms (length a₀)) a₀ w k b a
+  finished : take (length a₀ - k) (decoded (drop at words) atoms) ≡ [] → Runs s words atoms b₀ a₀ (record { serializer = w; calls = k }) b a
   unfolding final
   finished none =
       let e = sym (final-none s b w a k) ∙ sym (ap (final s b w a k) none) ∙ l .same in
@@ -216,13 +200,13 @@ module _ {s : Style} {words atoms b₀ a₀ b a : List ℕ} {w : Serializer} {k 
         answers = ap (λ (f : Final). f .answers) e;
       }
 
-  pub full : length a ≤ k → Runs (writing s b₀ (callsOf words atoms (length a₀))) (callsOf words atoms (length a₀)) a₀ w k b a
+  pub full : length a ≤ k → Runs s words atoms b₀ a₀ (record { serializer = w; calls = k }) b a
   full h =
       let e = l .answers-length in
       let z : length a₀ - k ≡ 0 = omega arith in
       finished (ap (λ (n : ℕ). take n (decoded (drop at words) atoms)) z)
 
-  pub stopped : hasCall words at ≡ false → Runs (writing s b₀ (callsOf words atoms (length a₀))) (callsOf words atoms (length a₀)) a₀ w k b a
+  pub stopped : hasCall words at ≡ false → Runs s words atoms b₀ a₀ (record { serializer = w; calls = k }) b a
   stopped h = finished (ap (take (length a₀ - k)) (rest-none words atoms at (l .place) h) ∙ take-nil (length a₀ - k))
 
   -- one call more

@@ -1,15 +1,15 @@
 -- How a call of the writer is decided, whatever the record: it is refused, or it puts one of six pieces, which fits.
 -- Assumes nothing.
-use Prim.Native.Nat.{ℕ, _+_, _≤_, _<_, min}
+use Prim.Native.Nat.{ℕ, _+_, _≤_, min}
 use mathlib.Core.Path.{_≡_, refl}
 use mathlib.Core.Bool.{Bool, true, false, cond, false≢true}
 use mathlib.Core.List.{List, [], _∷_, _++_}
-use lib.Dec.{leb, ltb, eqb}
+use lib.Dec.{leb, eqb}
 use lib.ListN.{length}
-use borrow.Author.Tests.{leb-true, ltb-true}
+use borrow.Author.Tests.{leb-true}
 use Rattle.sise_util.specs.Atom.{isAtom}
 use Rattle.sise_util.proofs.Ranges.{split}
-use Rattle.sise_serializer.specs.Serializer.{Style, Piece, Written, accepted, refuse, limit, deepest, isSound, place, firstAtom, firstList, inner, close, last, putIn, putAtom, beginIn, beginList, endIn, endList, finishIn, finishWriting}
+use Rattle.sise_serializer.specs.Serializer.{Style, Piece, Written, accepted, refuse, limit, isSound, place, firstAtom, firstList, inner, close, last, putIn, putAtom, beginIn, beginList, endIn, endList, finishIn, finishWriting}
 use Rattle.sise_serializer.specs.declared.serializer.Phase.{Phase}
 use Rattle.sise_serializer.specs.declared.serializer.Phase.the-variants.{Beginning, Writing, Finished, Done}
 use Rattle.sise_serializer.specs.declared.serializer.Serializer.{Serializer}
@@ -28,7 +28,7 @@ pub data Puts (s : Style) (w : Serializer) : Call → Piece → Type 0 where
   atomAlone : {a : List ℕ} {t : ℕ} → w .phase ≡ Beginning → isAtom a ≡ true → Puts s w (putAtomCall a t) (firstAtom w a)
   atomInside : {a : List ℕ} {t : ℕ} → w .phase ≡ Writing → isAtom a ≡ true → Puts s w (putAtomCall a t) (inner s w a false t)
   listFirst : {t : ℕ} → w .phase ≡ Beginning → Puts s w (beginListCall t) (firstList w)
-  listInside : {t : ℕ} → w .phase ≡ Writing → w .lists < deepest → Puts s w (beginListCall t) (inner s w (40 ∷ []) true t)
+  listInside : {t : ℕ} → w .phase ≡ Writing → Puts s w (beginListCall t) (inner s w (40 ∷ []) true t)
   listClosed : w .phase ≡ Writing → Puts s w endListCall (close s w)
   textEnded : {wished : Bool} → w .phase ≡ Finished → Puts s w (finishCall wished) (last s w wished)
 
@@ -64,10 +64,7 @@ module _ (s : Style) (room : ℕ) (w : Serializer) where
   begin-in : (t : ℕ) (f : Phase) → w .phase ≡ f → Verdict s room w (beginListCall t) (beginIn f s room w t)
   unfolding beginIn
   begin-in t Beginning f = fitted (beginListCall t) (firstList w) (listFirst f)
-  begin-in t Writing f =
-      split (ltb (w .lists) deepest)
-      (λ h. rw h (fitted (beginListCall t) (inner s w (40 ∷ []) true t) (listInside f (ltb-true (w .lists) deepest h))))
-      (λ h. rw h (refuses 21 not-11))
+  begin-in t Writing f = fitted (beginListCall t) (inner s w (40 ∷ []) true t) (listInside f)
   begin-in t Finished f = refuses 19 not-11
   begin-in t Done f = refuses 19 not-11
 

@@ -5,8 +5,9 @@ use mathlib.Core.Bool.{Bool, true, false}
 use mathlib.Core.List.{List, [], _∷_, _++_, map}
 use lib.ListN.{length}
 use Rattle.sise_serializer.specs.Bytes.{pasted}
-use Rattle.sise_serializer.specs.Serializer.{Style, Answer, accepted, refused, Written, putAtom, beginList, endList, finishWriting, freshSerializer}
+use Rattle.sise_serializer.specs.Serializer.{Style, Answer, accepted, refused, Written, DoesAs, putAtom, beginList, endList, finishWriting, freshSerializer}
 use Rattle.sise_serializer.specs.declared.serializer.Serializer.{Serializer}
+use Rattle.sise_serializer.specs.declared.serializer.Wrote.{Wrote}
 
 -- "Atom, threshold and the wish for a final break are free at each call"
 pub data Call : Type 0 where
@@ -27,6 +28,10 @@ step s room w (putAtomCall a t) = putAtom s room w a t
 step s room w (beginListCall t) = beginList s room w t
 step s room w endListCall = endList s room w
 step s room w (finishCall wished) = finishWriting s room w wished
+
+-- what a call promises, that began with the style s, the record w and the buffer `before` and ended with the result r and the buffer `now`
+abbrev pub Does : Call → Style → Serializer → List ℕ → Wrote → List ℕ → Type 0
+Does c s w before r now = DoesAs (step s (length before) w c) w before r now
 
 abbrev pub isAccepted : Answer → Bool
 isAccepted (accepted o) = true

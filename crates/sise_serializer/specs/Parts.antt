@@ -1,14 +1,14 @@
 -- What the writer's private functions do.
 -- Assumes nothing.
-use Prim.Native.Nat.{ℕ, _+_, _-_, _*_, _≤_, min}
-use mathlib.Core.Bool.{Bool, false, cond}
+use Prim.Native.Nat.{ℕ, _+_, _*_, _≤_, min}
+use mathlib.Core.Bool.{Bool, cond}
 use mathlib.Core.List.{List, [], _∷_}
 use lib.Dec.{leb}
-use lib.ListN.{length, set}
-use Rattle.sise_serializer.specs.Serializer.{limit, deepest, Piece, firstAtom, firstList, phaseAfter, flagsAfter}
+use lib.ListN.{length}
+use Rattle.sise_serializer.specs.Serializer.{limit, Piece, place, DoesAs}
 use Rattle.sise_serializer.specs.declared.serializer.Phase.the-variants.{Writing}
 use Rattle.sise_serializer.specs.declared.serializer.Serializer.{Serializer}
-use Rattle.sise_serializer.specs.declared.steps.Progress.{Progress}
+use Rattle.sise_serializer.specs.declared.serializer.Wrote.{Wrote}
 use Rattle.sise_serializer.specs.declared.buffer.Spot.{Spot}
 use Rattle.sise_serializer.specs.declared.buffer.Spot.the-variants.{At, NoRoom}
 
@@ -16,10 +16,6 @@ use Rattle.sise_serializer.specs.declared.buffer.Spot.the-variants.{At, 
 unfoldable pub spotOf : ℕ → ℕ → ℕ → ℕ → Spot
 spotOf room at layout token =
     cond (leb (at + layout + token) (min room limit)) (At (at + layout) (at + layout + token)) NoRoom
-
--- an item's token: a `(`, or the atom a
-abbrev pub tokenOf : Bool → List ℕ → List ℕ
-tokenOf isList a = cond isList (40 ∷ []) a
 
 -- what stands before an item that stays in its line: a space, unless it joins what is before it
 abbrev pub gapBytes : Bool → List ℕ
@@ -29,45 +25,31 @@ gapBytes joins = cond joins [] (32 ∷ [])
 abbrev pub breakBytes : Bool → List ℕ → List ℕ
 breakBytes wished l = cond wished l []
 
--- an item before all others
-abbrev pub firstItem : Serializer → List ℕ → Bool → Piece
-firstItem w a isList = cond isList (firstList w) (firstAtom w a)
+-- what a function promises that writes a piece where it fits
+abbrev pub Places : Piece → Serializer → List ℕ → Wrote → List ℕ → Type 0
+Places p w before r now = DoesAs (place (length before) w p) w before r now
 
 -- bounds of a sound record, for the sums of the code
-pub record Small (w : Progress) : Type 0 where
+pub record Small (w : Serializer) : Type 0 where
   pub place : w .position ≤ limit
   pub line : w .«line_len» ≤ limit
-  pub depth : w .lists ≤ deepest
+  pub depth : w .lists ≤ limit
   pub gaps : w .spaces ≤ limit
   pub lines : w .breaks ≤ limit + 1
-  pub steps : w .indents ≤ deepest * (limit + 1)
+  pub steps : w .indents ≤ limit * (limit + 1)
 
--- a record whose innermost list, broken or not, is closed; places and counts are given
-abbrev pub closedWith : Serializer → Bool → ℕ → ℕ → ℕ → ℕ → Serializer
-closedWith w b position line breaks indents = record {
+-- a record in a list; lists, places and counts are given
+abbrev pub addedWith : ℕ → ℕ → ℕ → ℕ → ℕ → ℕ → ℕ → Bool → Serializer
+addedWith lists broken position line spaces breaks indents beginning = record {
   position = position;
-  phase = phaseAfter (w .lists - 1);
-  lists = w .lists - 1;
-  «line_broken» = flagsAfter (w .«line_broken») (w .lists - 1) b;
-  «list_beginning» = false;
-  «line_len» = line;
-  spaces = w .spaces;
-  breaks = breaks;
-  indents = indents;
-}
-
--- a record after one more item in the innermost of `lists` lists; flags, places and counts are given
-abbrev pub addedWith : ℕ → Bool → List Bool → ℕ → ℕ → ℕ → ℕ → ℕ → Serializer
-addedWith lists isList flags position line spaces breaks indents = record {
-  position = position;
-  phase = Writing;
-  lists = cond isList (lists + 1) lists;
-  «line_broken» = cond isList (set flags lists false) flags;
-  «list_beginning» = isList;
+  lists = lists;
+  broken = broken;
   «line_len» = line;
   spaces = spaces;
   breaks = breaks;
   indents = indents;
+  phase = Writing;
+  «list_beginning» = beginning;
 }
 
 -- an item in the same line, behind `lead`, which is a space or nothing
@@ -75,5 +57,5 @@ unfoldable pub inLine : Serializer → List ℕ → Bool → List ℕ → Piece
 inLine w token isList lead = record {
   layout = lead;
   token = token;
-  after = addedWith (w .lists) isList (w .«line_broken») (w .position + length lead + length token) (w .«line_len» + length lead + length token) (w .spaces + length lead) (w .breaks) (w .indents);
+  after = addedWith (cond isList (w .lists + 1) (w .lists)) (w .broken) (w .position + length lead + length token) (w .«line_len» + length lead + length token) (w .spaces + length lead) (w .breaks) (w .indents) isList;
 }

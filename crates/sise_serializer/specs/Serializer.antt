@@ -1,18 +1,18 @@
--- What the writer answers and writes (document 01, "serializer.rs: the writer" and "Refusals").
+-- What the writer answers and writes (document 01, "serializer.rs: the writer" and "Refusals", with request 2.6 of document 02).
 -- Assumes nothing.
 use Prim.Native.Nat.{ℕ, _+_, _-_, _*_, min}
 use mathlib.Core.Path.{_≡_}
-use mathlib.Core.Bool.{Bool, true, false, _&&_, _||_, cond}
+use mathlib.Core.Bool.{Bool, true, false, _&&_, cond}
 use mathlib.Core.List.{List, [], _∷_, _++_}
 use lib.Dec.{leb, ltb, eqb}
-use lib.ListN.{length, getD, set, replicate}
+use lib.ListN.{length}
 use Rattle.sise_util.specs.Atom.{isAtom}
 use Rattle.sise_serializer.specs.Bytes.{pasted, repeat}
 use Rattle.sise_serializer.specs.declared.serializer.Phase.{Phase}
 use Rattle.sise_serializer.specs.declared.serializer.Phase.the-variants.{Beginning, Writing, Finished, Done}
 use Rattle.sise_serializer.specs.declared.serializer.Serializer.{Serializer}
 use Rattle.sise_serializer.specs.declared.serializer.Put.{Put}
-use Rattle.sise_serializer.specs.declared.serializer.Put.the-variants.{At, UnsoundRecord, InvalidAtom, NoListToEnd, WritingFinished, WritingNotFinished, TooDeep, NoRoom}
+use Rattle.sise_serializer.specs.declared.serializer.Put.the-variants.{At, UnsoundRecord, InvalidAtom, NoListToEnd, WritingFinished, WritingNotFinished, NoRoom}
 use Rattle.sise_serializer.specs.declared.serializer.Wrote.{Wrote}
 
 -- the two strings that the caller lends for layout
@@ -23,25 +23,22 @@ pub record Style : Type 0 where
 abbrev pub style : List ℕ → List ℕ → Style
 style b i = record { lineBreak = b; indentation = i }
 
--- 22's limit, and the most open lists
+-- 22's limit
 abbrev pub limit : ℕ
 limit = 16777216
-
-abbrev pub deepest : ℕ
-deepest = 200
 
 -- "Each starts at 0"
 unfoldable pub freshSerializer : Serializer
 freshSerializer = record {
   position = 0;
-  phase = Beginning;
   lists = 0;
-  «line_broken» = replicate deepest false;
-  «list_beginning» = false;
+  broken = 0;
   «line_len» = 0;
   spaces = 0;
   breaks = 0;
   indents = 0;
+  phase = Beginning;
+  «list_beginning» = false;
 }
 
 -- ---- sound records
@@ -60,17 +57,18 @@ lastBreak Writing = 0
 lastBreak Finished = 0
 lastBreak Done = 1
 
--- "Sound: position at most 16,777,216; line length at most position; D at most 200, and at least 1 exactly in writing; spaces and breaks at most
--- position, breaks one more when done; indents at most 200 × (position + 1)"
+-- "Sound: position at most 16,777,216; line length at most position"; D "at most its position"; "the open lists with a break in them, at most D"; D "at
+-- least 1 exactly in writing; spaces and breaks at most position, breaks one more when done"; "indents at most position × (position + 1)"
 unfoldable pub isSound : Serializer → Bool
 isSound w =
     leb (w .position) limit
     && (leb (w .«line_len») (w .position)
-    && (leb (w .lists) deepest
+    && (leb (w .lists) (w .position)
+    && (leb (w .broken) (w .lists)
     && (listsFit (w .phase) (w .lists)
     && (leb (w .spaces) (w .position)
     && (leb (w .breaks) (w .position + lastBreak (w .phase))
-    && leb (w .indents) (deepest * (w .position + 1)))))))
+    && leb (w .indents) (w .position * (w .position + 1))))))))
 
 -- ---- answers
 
@@ -88,7 +86,6 @@ answerAs InvalidAtom = refused 17
 answerAs NoListToEnd = refused 18
 answerAs WritingFinished = refused 19
 answerAs WritingNotFinished = refused 20
-answerAs TooDeep = refused 21
 answerAs NoRoom = refused 22
 
 -- a refusal's number, and 0 where there is none
@@ -107,7 +104,7 @@ abbrev pub refuse : ℕ → Serializer → Written
 refuse n w = record { serializer = w; answer = refused n; bytes = [] }
 
 -- what a call promises, that began with the record w and the buffer `before` and ended with the result r and the buffer `now`: it does as d says
-pub record Does (d : Written) (w : Serializer) (before : List ℕ) (r : Wrote) (now : List ℕ) : Type 0 where
+pub record DoesAs (d : Written) (w : Serializer) (before : List ℕ) (r : Wrote) (now : List ℕ) : Type 0 where
   pub serializer : r .serializer ≡ d .serializer
   pub answer : answerAs (r .answer) ≡ d .answer
   pub buffer : now ≡ pasted before (w .position) (d .bytes)
@@ -133,14 +130,14 @@ firstAtom w a = record {
   token = a;
   after = record {
     position = w .position + length a;
-    phase = Finished;
     lists = 0;
-    «line_broken» = w .«line_broken»;
-    «list_beginning» = w .«list_beginning»;
+    broken = 0;
     «line_len» = w .«line_len»;
     spaces = w .spaces;
     breaks = w .breaks;
     indents = w .indents;
+    phase = Finished;
+    «list_beginning» = w .«list_beginning»;
   };
 }
 
@@ -151,14 +148,14 @@ firstList w = record {
   token = 40 ∷ [];
   after = record {
     position = w .position + 1;
-    phase = Writing;
     lists = 1;
-    «line_broken» = set (w .«line_broken») 0 false;
-    «list_beginning» = true;
+    broken = 0;
     «line_len» = 1;
     spaces = w .spaces;
     breaks = w .breaks;
     indents = w .indents;
+    phase = Writing;
+    «list_beginning» = true;
   };
 }
 
@@ -174,21 +171,22 @@ gapAt w t = cond (ltb (w .«line_len») t) (cond (w .«list_beginning») nothing
 abbrev pub newLineOf : Style → ℕ → List ℕ
 newLineOf s n = s .lineBreak ++ repeat n (s .indentation)
 
--- a gap's bytes, and the line length, the flags and the counts after it
+-- a gap's bytes, and the line length, the lists with a break in them and the counts after it
 pub record Laid : Type 0 where
   pub bytes : List ℕ
   pub line : ℕ
-  pub flags : List Bool
+  pub broken : ℕ
   pub spaces : ℕ
   pub breaks : ℕ
   pub indents : ℕ
 
--- "line_break, D indentations, then the item; the innermost list is broken, and line length = indentation bytes + item bytes"
+-- "line_break, D indentations, then the item; the innermost list is broken, and line length = indentation bytes + item bytes". 2.6: "a break anywhere in
+-- a list breaks it by its close", so all open lists have a break in them then
 unfoldable pub laid : Gap → Style → Serializer → Laid
 laid newLine s w = record {
   bytes = newLineOf s (w .lists);
   line = w .lists * length (s .indentation);
-  flags = set (w .«line_broken») (w .lists - 1) true;
+  broken = w .lists;
   spaces = w .spaces;
   breaks = w .breaks + 1;
   indents = w .indents + w .lists;
@@ -196,7 +194,7 @@ laid newLine s w = record {
 laid nothing s w = record {
   bytes = [];
   line = w .«line_len»;
-  flags = w .«line_broken»;
+  broken = w .broken;
   spaces = w .spaces;
   breaks = w .breaks;
   indents = w .indents;
@@ -204,13 +202,14 @@ laid nothing s w = record {
 laid space s w = record {
   bytes = 32 ∷ [];
   line = w .«line_len» + 1;
-  flags = w .«line_broken»;
+  broken = w .broken;
   spaces = w .spaces + 1;
   breaks = w .breaks;
   indents = w .indents;
 }
 
--- an item in a list after a gap: its token, and whether it opens a list. "list-beginning is off for an atom, on for `(`. The new list isn't broken"
+-- an item in a list after a gap: its token, and whether it opens a list. "list-beginning is off for an atom, on for `(`. The new list isn't broken", and
+-- so is not counted
 unfoldable pub innerAs : Style → Serializer → List ℕ → Bool → Gap → Piece
 innerAs s w token isList g =
     let l = laid g s w in
@@ -219,14 +218,14 @@ innerAs s w token isList g =
       token = token;
       after = record {
         position = w .position + length (l .bytes) + length token;
-        phase = Writing;
         lists = cond isList (w .lists + 1) (w .lists);
-        «line_broken» = cond isList (set (l .flags) (w .lists) false) (l .flags);
-        «list_beginning» = isList;
+        broken = l .broken;
         «line_len» = l .line + length token;
         spaces = l .spaces;
         breaks = l .breaks;
         indents = l .indents;
+        phase = Writing;
+        «list_beginning» = isList;
       };
     }
 
@@ -237,15 +236,8 @@ inner s w token isList t = innerAs s w token isList (gapAt w t)
 unfoldable pub phaseAfter : ℕ → Phase
 phaseAfter n = cond (eqb n 0) Finished Writing
 
--- the flags where n lists are left open, and the closed one was broken or not: "A broken child makes its parent broken; a closed list's flag is
--- cleared"
-unfoldable pub flagsAfter : List Bool → ℕ → Bool → List Bool
-flagsAfter flags n b =
-    let cleared = set flags n false in
-    cond (eqb n 0) cleared (set cleared (n - 1) (b || getD cleared (n - 1) false))
-
 -- "`)`: if the innermost list is broken, line_break and D − 1 indentations, which restart the line length. Then `)`, one more; list-beginning is
--- off"
+-- off". The lists left open keep their breaks, the closed one's among them: "A broken child makes its parent broken"
 unfoldable pub closeAs : Style → Serializer → Bool → Piece
 closeAs s w b =
     let n = w .lists - 1 in
@@ -255,19 +247,20 @@ closeAs s w b =
       token = 41 ∷ [];
       after = record {
         position = w .position + length gap + 1;
-        phase = phaseAfter n;
         lists = n;
-        «line_broken» = flagsAfter (w .«line_broken») n b;
-        «list_beginning» = false;
+        broken = min (w .broken) n;
         «line_len» = cond b (n * length (s .indentation)) (w .«line_len») + 1;
         spaces = w .spaces;
         breaks = cond b (w .breaks + 1) (w .breaks);
         indents = cond b (w .indents + n) (w .indents);
+        phase = phaseAfter n;
+        «list_beginning» = false;
       };
     }
 
+-- the innermost list has a break in it exactly if all open lists have one
 unfoldable pub close : Style → Serializer → Piece
-close s w = closeAs s w (getD (w .«line_broken») (w .lists - 1) false)
+close s w = closeAs s w (eqb (w .broken) (w .lists))
 
 -- "finish: line_break if wished; phase done"
 unfoldable pub last : Style → Serializer → Bool → Piece
@@ -278,14 +271,14 @@ last s w wished =
       token = [];
       after = record {
         position = w .position + length gap;
-        phase = Done;
         lists = w .lists;
-        «line_broken» = w .«line_broken»;
-        «list_beginning» = w .«list_beginning»;
+        broken = w .broken;
         «line_len» = w .«line_len»;
         spaces = w .spaces;
         breaks = cond wished (w .breaks + 1) (w .breaks);
         indents = w .indents;
+        phase = Done;
+        «list_beginning» = w .«list_beginning»;
       };
     }
 
@@ -301,10 +294,10 @@ putIn Done s room w a t = refuse 19 w
 unfoldable pub putAtom : Style → ℕ → Serializer → List ℕ → ℕ → Written
 putAtom s room w a t = cond (isSound w) (cond (isAtom a) (putIn (w .phase) s room w a t) (refuse 17 w)) (refuse 11 w)
 
--- "`begin_list`: 11, 19, 21, 22"
+-- "`begin_list`: 11, 19, 22", since 2.6 without 21
 unfoldable pub beginIn : Phase → Style → ℕ → Serializer → ℕ → Written
 beginIn Beginning s room w t = place room w (firstList w)
-beginIn Writing s room w t = cond (ltb (w .lists) deepest) (place room w (inner s w (40 ∷ []) true t)) (refuse 21 w)
+beginIn Writing s room w t = place room w (inner s w (40 ∷ []) true t)
 beginIn Finished s room w t = refuse 19 w
 beginIn Done s room w t = refuse 19 w
 

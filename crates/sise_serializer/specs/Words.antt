@@ -8,9 +8,9 @@ use lib.Dec.{eqb, leb}
 use lib.ListN.{length, getD, take}
 use Rattle.sise_parser.specs.Reader.{partOf}
 use Rattle.sise_serializer.specs.Bytes.{pasted}
-use Rattle.sise_serializer.specs.Serializer.{Answer, accepted, refused}
-use Rattle.sise_serializer.specs.declared.serializer.Serializer.{Serializer}
-use Rattle.sise_serializer.specs.Calls.{Call, putAtomCall, beginListCall, endListCall, finishCall, Run}
+use Rattle.sise_serializer.specs.Serializer.{Style, Answer, accepted, refused}
+use Rattle.sise_serializer.specs.declared.calls.Ran.{Ran}
+use Rattle.sise_serializer.specs.Calls.{Call, putAtomCall, beginListCall, endListCall, finishCall, writing}
 
 -- the call that four words mean, by its kind: 0 puts the atom that is that part of `atoms`, at the threshold t (a part outside is empty, and so refused
 -- with 17); 1 begins a list at the threshold t; 2 ends a list; 3 finishes without, 4 with a final break
@@ -47,10 +47,16 @@ abbrev pub answerWord : Answer → ℕ
 answerWord (accepted o) = o
 answerWord (refused n) = 2 ^ 32 + n
 
--- what running the calls cs promises, that began with the words `before` for answers and ended with the record w after n calls, the buffer `bytes` and
--- the words `now`: it does as r says
-pub record Runs (r : Run) (cs : List Call) (before : List ℕ) (w : Serializer) (n : ℕ) (bytes now : List ℕ) : Type 0 where
-  pub serializer : w ≡ r .last
-  pub calls : n ≡ length cs
-  pub buffer : bytes ≡ r .buffer
-  pub answers : now ≡ pasted before 0 (map answerWord (r .answers))
+-- what running the calls that the words mean promises, with the style s, the buffer b and the words `before` for answers: it ends with the record and the
+-- number of calls in r, the buffer `bytes` and the words `now`
+pub record Runs (s : Style) (words atoms b before : List ℕ) (r : Ran) (bytes now : List ℕ) : Type 0 where
+  pub serializer : r .serializer ≡ writing s b (callsOf words atoms (length before)) .last
+  pub calls : r .calls ≡ length (callsOf words atoms (length before))
+  pub buffer : bytes ≡ writing s b (callsOf words atoms (length before)) .buffer
+  pub answers : now ≡ pasted before 0 (map answerWord (writing s b (callsOf words atoms (length before)) .answers))
+
+-- the same of a call that hands back of the record only its position n, which is how many bytes of the buffer are written
+pub record WritesCalls (s : Style) (words atoms b before : List ℕ) (n : ℕ) (bytes now : List ℕ) : Type 0 where
+  pub size : n ≡ writing s b (callsOf words atoms (length before)) .last .position
+  pub buffer : bytes ≡ writing s b (callsOf words atoms (length before)) .buffer
+  pub answers : now ≡ pasted before 0 (map answerWord (writing s b (callsOf words atoms (length before)) .answers))

@@ -6,7 +6,7 @@ ghost use Prim.Native.Nat.{_+_, _*_, _≤_, _<_, min};
 ghost use lib.Dec.{leb};
 ghost use lib.ListN.{length, getD};
 ghost use Rattle.sise_serializer.specs.Bytes.{pasted, pastedIf, repeat};
-ghost use Rattle.sise_serializer.specs.Parts.{spotOf, tokenOf, gapBytes, breakBytes};
+ghost use Rattle.sise_serializer.specs.Parts.{spotOf, gapBytes, breakBytes};
 
 // The longest text.
 pub const LIMIT: usize = 16777216;
@@ -27,7 +27,7 @@ fn smaller(a: usize, b: usize) -> usize
 fn has_room(left: usize, times: usize, size: usize) -> bool
     ensures { λ r. ⌜ r ≡ leb (times * size) left ⌝ }
 {
-    if times <= 256 && size <= LIMIT {
+    if times <= LIMIT && size <= LIMIT {
         return times * size <= left;
     }
     if size == 0 {
@@ -37,7 +37,7 @@ fn has_room(left: usize, times: usize, size: usize) -> bool
 }
 
 // The spot of a token of `token` bytes behind `lead` bytes and `times` indentations, the whole beginning at `position` in a buffer of `room` bytes.
-pub(crate) fn find_spot(
+pub fn find_spot(
     position: usize,
     room: usize,
     lead: usize,
@@ -68,7 +68,7 @@ pub(crate) fn find_spot(
 }
 
 // Copies `src` to the bytes of `buf` that begin at `at`. One byte, as most line breaks are, needs no loop.
-fn copy(buf: &mut [u8], at: usize, src: &[u8])
+pub(crate) fn copy(buf: &mut [u8], at: usize, src: &[u8])
     requires { ⌜ at + length (now src) ≤ length (now buf) ⌝ }
     ensures { λ _. ⌜ now (buf .exit) ≡ pasted (now (buf .entry)) at (now (src .entry)) ⌝ }
 {
@@ -155,25 +155,6 @@ pub(crate) fn write_gap(buf: &mut [u8], at: usize, joins: bool)
 {
     if !joins {
         buf[at] = 32;
-    }
-}
-
-// The bytes of an item's token: a parenthesis, or the atom.
-pub(crate) fn token_len(atom: &[u8], is_list: bool) -> usize
-    ensures { λ r. ⌜ r ≡ length (tokenOf «is_list» (now (atom .entry))) ⌝ }
-{
-    if is_list { 1 } else { atom.len() }
-}
-
-// An item's token.
-pub(crate) fn write_token(buf: &mut [u8], at: usize, atom: &[u8], is_list: bool)
-    requires { ⌜ at + length (tokenOf «is_list» (now atom)) ≤ length (now buf) ⌝ }
-    ensures { λ _. ⌜ now (buf .exit) ≡ pasted (now (buf .entry)) at (tokenOf «is_list» (now (atom .entry))) ⌝ }
-{
-    if is_list {
-        buf[at] = 40;
-    } else {
-        copy(buf, at, atom);
     }
 }
 

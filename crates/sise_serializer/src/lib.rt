@@ -2,19 +2,18 @@
 mod buffer;
 mod calls;
 mod serializer;
-mod steps;
 
 pub use buffer::LIMIT;
+pub use buffer::Spot;
+pub use buffer::find_spot;
 pub use buffer::paste;
 pub use buffer::paste_line;
 pub use calls::Ran;
+pub use calls::has_call;
+pub use calls::put_word;
 pub use calls::write_calls;
-pub use calls::write_calls_singly;
 pub use serializer::Phase;
 pub use serializer::Put;
 pub use serializer::Serializer;
 pub use serializer::Wrote;
-pub use steps::DEEPEST;
-pub use steps::Flags;
-pub use steps::Progress;
-pub use steps::phase_after;
+pub use serializer::phase_after;

@@ -1,6 +1,6 @@
 -- The decision answers `some n` exactly if the words hold `n`: what it reads is spelt by the words, and a table is read back.
 -- Assumes nothing.
-use Prim.Native.Nat.{ℕ, zero, suc, _+_, _<_}
+use Prim.Native.Nat.{ℕ, zero, suc, _+_, _*_, _<_}
 use native.Mathlib.Numerals.{one-add}
 use native.Mathlib.Omega.{arith}
 use mathlib.Core.Path.{_≡_, refl, sym, _∙_}
@@ -11,7 +11,7 @@ use lib.Dec.{leb, eqb}
 use lib.ListN.{length, drop}
 use borrow.Author.Tests.{eqb-true, eq-eqb}
 use Rattle.sise_util.proofs.Ranges.{split, both}
-use Rattle.sise_tree.specs.Tree.{Node, atom, list, Nodes, empty, _then_, size, sizes, children, table, tables, lies, liesAll, Holds}
+use Rattle.sise_tree.specs.Tree.{Node, atom, list, Nodes, empty, _then_, size, sizes, children, tableAt, tables, lies, liesAll, second, Holds}
 use Rattle.sise_tree.specs.Decision.{guard, bind, Read, ahead, row, only, decide}
 use Rattle.sise_tree.proofs.TreeLaws.{anded, row-holds, holds-words, words-after, holds-fits}
 
@@ -29,48 +29,48 @@ unfolding bind
 bound {x = none} h k = none-some h
 bound {x = some a} h k = k a refl h
 
--- what was read of the words: so many nodes, whose atoms lie in the text
-record Spelt (l c : ℕ) (ws : List ℕ) (r : Read) : Type 0 where
-  words : ws ≡ tables (r .nodes) ++ r .rest
+-- what was read of the words: so many nodes, the first of which stands d nodes behind their parent, and whose atoms lie in the text
+record Spelt (l d c : ℕ) (ws : List ℕ) (r : Read) : Type 0 where
+  words : ws ≡ tables d (r .nodes) ++ r .rest
   count : children (r .nodes) ≡ c
   inText : liesAll l (r .nodes) ≡ true
 
-spelt-none : (l : ℕ) (ws : List ℕ) → Spelt l 0 ws (record { nodes = empty; rest = ws })
+spelt-none : (l d : ℕ) (ws : List ℕ) → Spelt l d 0 ws (record { nodes = empty; rest = ws })
 unfolding tables children liesAll
-spelt-none l ws = record { words = refl; count = refl; inText = refl }
+spelt-none l d ws = record { words = refl; count = refl; inText = refl }
 
 spelt-atom :
-    {l c : ℕ} (a b : ℕ) {k s : ℕ} {ws : List ℕ} {r : Read} → k ≡ 1 → s ≡ 1 → leb (a + b) l ≡ true → Spelt l c ws r
-    → Spelt l (suc c) (k ∷ a ∷ b ∷ s ∷ ws) (ahead (atom a b) r)
-unfolding ahead table tables children lies liesAll
+    {l d c : ℕ} (a b : ℕ) {k s : ℕ} {ws : List ℕ} {r : Read} → k ≡ 1 → s ≡ 1 → leb (a + b) l ≡ true → Spelt l (d + 1) c ws r
+    → Spelt l d (suc c) (k ∷ a ∷ b ∷ s ∷ ws) (ahead (atom a b) r)
+unfolding ahead size tableAt tables children lies liesAll
 spelt-atom a b ek es t h = record { words = cc (h .words); count = omega (arith, h .count); inText = both _ _ t (h .inText) }
 
 spelt-list :
-    {l c a b k s : ℕ} {ws : List ℕ} {r q : Read} → k ≡ 0 → b ≡ 0 → s ≡ 1 + sizes (r .nodes) → Spelt l a ws r → Spelt l c (r .rest) q
-    → Spelt l (suc c) (k ∷ a ∷ b ∷ s ∷ ws) (ahead (list (r .nodes)) q)
-unfolding ahead table tables children lies liesAll
-spelt-list {r} {q} ek eb es h g =
+    {l d c a b k s : ℕ} {ws : List ℕ} {r q : Read} → k ≡ 0 → b ≡ d → s ≡ 1 + sizes (r .nodes) → Spelt l 1 a ws r → Spelt l (d + s) c (r .rest) q
+    → Spelt l d (suc c) (k ∷ a ∷ b ∷ s ∷ ws) (ahead (list (r .nodes)) q)
+unfolding ahead size tableAt tables children lies liesAll
+spelt-list {d} {r} {q} ek eb es h g =
     record {
-      words = cc (h .words, h .count, g .words, append-assoc (tables (r .nodes)) (tables (q .nodes)) (q .rest));
+      words = cc (h .words, h .count, g .words, append-assoc (tables 1 (r .nodes)) (tables (d + (1 + sizes (r .nodes))) (q .nodes)) (q .rest));
       count = omega (arith, g .count);
       inText = both _ _ (h .inText) (g .inText);
     }
 
-row-sound : (f l c : ℕ) (ws : List ℕ) {r : Read} → row f l c ws ≡ some r → Spelt l c ws r
+row-sound : (f l d c : ℕ) (ws : List ℕ) {r : Read} → row f l d c ws ≡ some r → Spelt l d c ws r
 unfolding row
-row-sound zero l c ws h = none-some h
-row-sound (suc f) l zero ws h = rw (Option·some-injective _ _ h) at (spelt-none l ws)
-row-sound (suc f) l (suc c) [] h = none-some h
-row-sound (suc f) l (suc c) (k ∷ []) h = none-some h
-row-sound (suc f) l (suc c) (k ∷ a ∷ []) h = none-some h
-row-sound (suc f) l (suc c) (k ∷ a ∷ b ∷ []) h = none-some h
-row-sound (suc f) l (suc c) (k ∷ a ∷ b ∷ s ∷ ws) h =
+row-sound zero l d c ws h = none-some h
+row-sound (suc f) l d zero ws h = rw (Option·some-injective _ _ h) at (spelt-none l d ws)
+row-sound (suc f) l d (suc c) [] h = none-some h
+row-sound (suc f) l d (suc c) (k ∷ []) h = none-some h
+row-sound (suc f) l d (suc c) (k ∷ a ∷ []) h = none-some h
+row-sound (suc f) l d (suc c) (k ∷ a ∷ b ∷ []) h = none-some h
+row-sound (suc f) l d (suc c) (k ∷ a ∷ b ∷ s ∷ ws) h =
     split (eqb k 1)
     (λ ek.
     guarded (rw (ek, row) at h) λ es x.
     guarded x λ t y.
     bound y λ r i o.
-    rw (Option·some-injective _ _ o) at (spelt-atom a b (eqb-true k 1 ek) (eqb-true s 1 es) t (row-sound f l c ws i)))
+    rw (Option·some-injective _ _ o) at (spelt-atom a b (eqb-true k 1 ek) (eqb-true s 1 es) t (row-sound f l (d + 1) c ws i)))
     (λ ek.
     guarded (rw (ek, row) at h) λ ez x.
     guarded x λ eb y.
@@ -78,45 +78,48 @@ row-sound (suc f) l (suc c) (k ∷ a ∷ b ∷ s ∷ ws) h =
     guarded z λ es v.
     bound v λ q j o.
     rw (Option·some-injective _ _ o) at
-    (spelt-list (eqb-true k 0 ez) (eqb-true b 0 eb) (eqb-true s _ es) (row-sound f l a ws i) (row-sound f l c (r .rest) j)))
+    (spelt-list (eqb-true k 0 ez) (eqb-true b d eb) (eqb-true s _ es) (row-sound f l 1 a ws i) (row-sound f l (d + s) c (r .rest) j)))
 
 row-complete :
-    (f l : ℕ) (ns : Nodes) (rest : List ℕ) → liesAll l ns ≡ true → sizes ns < f
-    → row f l (children ns) (tables ns ++ rest) ≡ some (record { nodes = ns; rest = rest })
-unfolding row ahead guard bind size sizes children table tables lies liesAll
-row-complete zero l ns rest t u = absurd (omega arith)
-row-complete (suc f) l empty rest t u = refl
-row-complete (suc f) l (atom p n then ns) rest t u =
-    anded {a = leb (p + n) l} t λ here more. rw (one-add (children ns), here, row-complete f l ns rest more (omega arith))
-row-complete (suc f) l (list cs then ns) rest t u =
+    (f l d : ℕ) (ns : Nodes) (rest : List ℕ) → liesAll l ns ≡ true → sizes ns < f
+    → row f l d (children ns) (tables d ns ++ rest) ≡ some (record { nodes = ns; rest = rest })
+unfolding row ahead guard bind size sizes children tableAt tables lies liesAll
+row-complete zero l d ns rest t u = absurd (omega arith)
+row-complete (suc f) l d empty rest t u = refl
+row-complete (suc f) l d (atom p n then ns) rest t u =
+    anded {a = leb (p + n) l} t λ here more. rw (one-add (children ns), here, row-complete f l (d + 1) ns rest more (omega arith))
+row-complete (suc f) l d (list cs then ns) rest t u =
     anded {a = liesAll l cs} t λ inside more.
+    let next = d + (1 + sizes cs) in
     rw (
       one-add (children ns),
-      append-assoc (tables cs) (tables ns) rest,
-      row-complete f l cs (tables ns ++ rest) inside (omega arith),
+      eq-eqb d d refl,
+      append-assoc (tables 1 cs) (tables next ns) rest,
+      row-complete f l 1 cs (tables next ns ++ rest) inside (omega arith),
       eq-eqb (1 + sizes cs) (1 + sizes cs) refl,
-      row-complete f l ns rest more (omega arith),
+      row-complete f l next ns rest more (omega arith),
     )
 
 pub decide-sound : {l : ℕ} {words : List ℕ} {n : Node} → decide l words ≡ some n → Holds l words n
 unfolding decide only
 decide-sound {l} {words} {n} h =
     bound h λ r i o.
-    let s = row-sound (suc (length words)) l 1 words i in
-    let (m, one, holds) = row-holds (r .nodes) (r .rest) (s .count) (s .words) (s .inText) in
+    let s = row-sound (suc (length words)) l (second words 0) 1 words i in
+    let (m, one, holds) = row-holds (second words 0) (r .nodes) (r .rest) (s .count) (s .words) (s .inText) in
     rw (Option·some-injective m n (rw one at o)) at holds
 
 pub decide-complete : {l : ℕ} {words : List ℕ} {n : Node} → Holds l words n → decide l words ≡ some n
-unfolding decide only bind size sizes children table tables lies liesAll
+unfolding decide only bind size sizes children tableAt tables lies liesAll
 decide-complete {l} {words} {n} h =
-    let rest = drop (length (table n)) words in
-    let e : tables (n then empty) ++ rest ≡ words = rw (append-nil (table n)) (sym (holds-words h)) in
+    let d = second words 0 in
+    let rest = drop (4 * size n) words in
+    let e : tables d (n then empty) ++ rest ≡ words = rw (append-nil (tableAt d n)) (sym (holds-words h)) in
     let u : sizes (n then empty) < suc (length words) = omega (arith, holds-fits h) in
-    rw (rw e at (row-complete (suc (length words)) l (n then empty) rest (both _ _ (h .inText) refl) u))
+    rw (rw e at (row-complete (suc (length words)) l d (n then empty) rest (both _ _ (h .inText) refl) u))
 
--- whatever the words after its table are
-pub decide-after : (l : ℕ) (n : Node) (rest : List ℕ) → lies l n ≡ true → decide l (table n ++ rest) ≡ some n
-decide-after l n rest t = decide-complete (words-after l n rest t)
+-- whatever its distance to a parent is, and the words after its table
+pub decide-after : (l d : ℕ) (n : Node) (rest : List ℕ) → lies l n ≡ true → decide l (tableAt d n ++ rest) ≡ some n
+decide-after l d n rest t = decide-complete (words-after l d n rest t)
 
 -- so the words hold one tree at most
 pub holds-once : {l : ℕ} {words : List ℕ} {n m : Node} → Holds l words n → Holds l words m → n ≡ m

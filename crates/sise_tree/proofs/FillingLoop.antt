@@ -12,11 +12,11 @@ use Rattle.sise_parser.specs.declared.reader.ParsedItem.{ParsedItem}
 use Rattle.sise_parser.specs.declared.reader.ParsedItem.the-variants.{Atom, ListStart, ListEnd}
 use Rattle.sise_tree.specs.Tree.{Node, atom, list, size}
 use Rattle.sise_tree.specs.ParseTree.{Frames, top, _▹_, Stage, inside, whole, closes, attach, close, turn, ReadNode, got, readStage, filledWith}
-use Rattle.sise_tree.specs.Filling.{opened, filled, link, render, filledIn, linkIn, renderIn, Shows, EndsAt, Fits, Fillable, Fills, DoesFill}
+use Rattle.sise_tree.specs.Filling.{opened, filled, innermost, render, filledIn, innermostIn, renderIn, Shows, EndsAt, Fits, Fillable, Fills, DoesFill}
 use Rattle.sise_tree.specs.declared.parse.Mark.{Mark}
 use Rattle.sise_tree.proofs.ReadSteps.{Took, took, readOn, read-refused, nodeIn, stopped-got, stage-got, Leads, leads}
-use Rattle.sise_tree.proofs.ParseSteps.{stands-none, turned, stands-on}
-use Rattle.sise_tree.proofs.ParseLaws.{at-most-bytes}
+use Rattle.sise_tree.proofs.ParseSteps.{inside-open, stands-none, turned, stands-on}
+use Rattle.sise_tree.proofs.ParseLaws.{at-most-bytes, read-lists}
 use Rattle.sise_tree.proofs.FillingLaws.{attach-filled}
 
 -- no item takes a node away
@@ -35,29 +35,10 @@ grows text =
       went = λ f g r s i e t h. let z = ap filledIn t in omega (arith, turn-grows f i);
     }
 
--- no link is 0 while a list is open
-attach-done : (f : Frames) (n : Node) → linkIn (attach f n) ≡ 0 → attach f n ≡ whole n
-unfolding attach linkIn link
-attach-done top n z = refl
-attach-done (f ▹ c) n z = absurd (omega arith)
-
-turn-done : (f : Frames) (i : ParsedItem) → linkIn (turn f i) ≡ 0 → ((p : ℕ) → turn f i ≡ closes p → ⊥) → (n : Node) × (turn f i ≡ whole n)
-unfolding turn close linkIn link
-turn-done f (Atom p n) z d = (atom p n, attach-done f (atom p n) z)
-turn-done f (ListStart p) z d = absurd (omega arith)
-turn-done top (ListEnd p) z d = absurd (d p refl)
-turn-done (f ▹ c) (ListEnd p) z d = (list c, attach-done f (list c) z)
-
-stage-inside : (s : Stage) → (linkIn s ≡ 0 → ⊥) → (f : Frames) × (s ≡ inside f)
-unfolding linkIn
-stage-inside (inside f) d = (f, refl)
-stage-inside (whole n) d = absurd (d refl)
-stage-inside (closes p) d = absurd (d refl)
-
 module _ (text w₀ : List ℕ) (r₀ : Reader) where
   pub fills-none : Fills text w₀ r₀ top r₀ 0 w₀ (record { next = 0; parent = 0 })
-  unfolding filled filledIn link linkIn render renderIn
-  fills-none = record { stands = stands-none text r₀; shows = record { shown = refl; nexts = refl; linked = refl }; same = refl }
+  unfolding filled filledIn innermost innermostIn render renderIn
+  fills-none = record { stands = stands-none text r₀; shows = record { shown = refl; nexts = refl; parents = refl }; same = refl }
 
   module _ {n : Node} {q₀ : Reader} (k : Fillable text r₀ w₀ n q₀) {f : Frames} {r : Reader} {depth : ℕ} {words : List ℕ} {m : Mark} (h : Fills text w₀ r₀ f r depth words m) where
     pub never-refused : {A : Type 0} {q : Reader} {x : Refusal} → nextItem text r ≡ next q (refused x) → A
@@ -94,16 +75,21 @@ module _ (text w₀ : List ℕ) (r₀ : Reader) where
           ends-at (ListEnd p) t = tt
 
       module _ {now : List ℕ} {m′ : Mark} (s : Shows w₀ (turn f i) now m′) where
-        pub fill-ends : m′ .parent ≡ 0 → DoesFill text r₀ w₀ now
-        unfolding filledWith filledIn renderIn readStage
+        pub fill-ends : q .lists ≡ r₀ .lists → DoesFill text r₀ w₀ now
+        unfolding filledWith filledIn renderIn
         fill-ends z l p d =
-            let (o, t) = turn-done f i (sym (s .linked) ∙ z) due in
+            stage-got (turn f i) (got-on refl)
+            (λ g t more. absurd (inside-open f i t (omega (arith, z, stands-on text r₀ (h .stands) e t refl .listed))))
+            (λ t x.
             s .shown
-            ∙ ap (λ (x : Stage). renderIn x ++ drop (4 * filledIn x) w₀) t
-            ∙ ap (λ (x : ReadNode). filledWith (nodeIn o x) w₀) (got-on t ∙ sym (k .reads) ∙ d)
+            ∙ ap (λ (y : Stage). renderIn y ++ drop (4 * filledIn y) w₀) t
+            ∙ ap (λ (y : ReadNode). filledWith (nodeIn n y) w₀) (sym (k .reads) ∙ d))
 
         pub fill-on : {g : Frames} {d : ℕ} → turn f i ≡ inside g → d ≡ opened g → length now ≡ length words → Fills text w₀ r₀ g q d now m′
         fill-on t z l = record { stands = stands-on text r₀ (h .stands) e t z; shows = subst (λ (x : Stage). Shows w₀ x now m′) t s; same = l ∙ h .same }
 
-        pub fill-goes : (m′ .parent ≡ 0 → ⊥) → length now ≡ length words → (g : Frames) × Fills text w₀ r₀ g q (opened g) now m′
-        fill-goes z l = let (g, t) = stage-inside (turn f i) (λ d. z (s .linked ∙ d)) in (g, fill-on t refl l)
+        pub fill-goes : (q .lists ≡ r₀ .lists → ⊥) → length now ≡ length words → (g : Frames) × Fills text w₀ r₀ g q (opened g) now m′
+        fill-goes z l =
+            stage-got (turn f i) (got-on refl)
+            (λ g t more. (g, fill-on t refl l))
+            (λ t x. absurd (z (ap (λ (y : Reader). y .lists) x ∙ read-lists text r₀ (k .reads))))

@@ -13,7 +13,7 @@ use Rattle.sise_parser.specs.declared.reader.Reader.{Reader}
 use Rattle.sise_parser.specs.declared.reader.ParsedItem.the-variants.{Atom, ListStart, ListEnd}
 use Rattle.sise_tree.specs.Tree.{Node, atom, list, empty}
 use Rattle.sise_tree.specs.ParseTree.{Frames, top, _▹_, inside, close, turn}
-use Rattle.sise_tree.specs.Filling.{opened, link, linkIn, readerAt, mark, Shows, Fits, Fillable, Fills, Filling}
+use Rattle.sise_tree.specs.Filling.{opened, readerAt, mark, Shows, Fits, Fillable, Fills, Filling}
 use Rattle.sise_tree.specs.declared.parse.Mark.{Mark}
 use Rattle.sise_tree.specs.declared.parse.Filled.{Filled}
 use Rattle.sise_tree.proofs.ParseSteps.{node-opens, stands-at, plain-atom, plain-start, plain-end}
@@ -81,23 +81,16 @@ module _ (text w₀ : List ℕ) (r₀ : Reader) {n : Node} {q₀ : Reader} {h : 
         attach-in f (atom s (q - s)) (λ z. some (deep ∙ z)) λ g u o.
         (g, record { known = a .known; some = some; fills = fill-on text w₀ r₀ (a .known) (a .fills) atom-item x u (deep ∙ sym o) e })
 
--- with a link to a list, a list is open
-link-opened : (f : Frames) → (link f ≡ 0 → ⊥) → opened f ≡ 0 → ⊥
-unfolding link opened
-link-opened top some z = some refl
-link-opened (f ▹ c) some z = omega arith
-
 -- after an item inside a known node, its parts are such a filling
 pub filling-at :
     (text w₀ : List ℕ) (r₀ : Reader) {n : Node} {q₀ : Reader} {f : Frames} {r : Reader} {words : List ℕ} {m : Mark}
-    → Fillable text r₀ w₀ n q₀ → Fills text w₀ r₀ f r (opened f) words m → (m .parent ≡ 0 → ⊥)
+    → Fillable text r₀ w₀ n q₀ → Fills text w₀ r₀ f r (opened f) words m → (r .lists ≡ r₀ .lists → ⊥)
     → Filling text w₀ r₀ n q₀ (r .phase) f words (filled (r .position) (r .lists - r₀ .lists) (m .next) (m .parent))
-unfolding linkIn
 filling-at text w₀ r₀ {n} {q₀} {f} {r} {words} {m} k h some =
     subst (λ (d : ℕ). Filling text w₀ r₀ n q₀ (r .phase) f words (filled (r .position) d (m .next) (m .parent))) {x = opened f} {y = r .lists - r₀ .lists}
     (omega (arith, h .stands .listed))
     (record {
       known = k;
-      some = link-opened f (λ z. some (h .shows .linked ∙ z));
+      some = λ z. some (omega (arith, h .stands .listed));
       fills = subst (λ (x : Reader). Fills text w₀ r₀ f x (opened f) words m) (stands-at text r₀ (h .stands)) h;
     })

@@ -8,11 +8,11 @@ use lib.ListN.{length, drop}
 use lib.Seq.{drop-drop}
 use Rattle.sise_parser.specs.declared.reader.ParsedItem.{ParsedItem}
 use Rattle.sise_parser.specs.declared.reader.ParsedItem.the-variants.{Atom, ListStart, ListEnd}
-use Rattle.sise_tree.specs.Tree.{atom, list, empty, size, sizes, children, table, tables}
+use Rattle.sise_tree.specs.Tree.{atom, list, empty, size, sizes, children, tableAt, tables}
 use Rattle.sise_tree.specs.ParseTree.{Frames, top, _▹_, Stage, inside, attach, close, turn}
-use Rattle.sise_tree.specs.Filling.{filled, link, render, filledIn, linkIn, renderIn, putAt, Attachable, Attaches, CanClose, Closes, Shows, EndsAt, Fits}
+use Rattle.sise_tree.specs.Filling.{filled, innermost, distance, render, filledIn, innermostIn, renderIn, putAt, Attachable, Attaches, CanClose, Closes, Shows, EndsAt, Fits}
 use Rattle.sise_tree.specs.declared.parse.Mark.{Mark}
-use Rattle.sise_tree.proofs.FillingLaws.{put-set, attach-filled, attach-link}
+use Rattle.sise_tree.proofs.FillingLaws.{put-set, next-at, attach-filled, attach-innermost}
 
 -- the words that are left, four fewer
 step : (i : ℕ) (w₀ : List ℕ) → drop 4 (drop (4 * i) w₀) ≡ drop (4 * (i + 1)) w₀
@@ -52,12 +52,18 @@ module _ {w₀ words : List ℕ} {f : Frames} {m : Mark} (h : Shows w₀ (inside
     atom-room = (omega (arith, h .nexts, atom-grows, u .room), omega (arith, h .nexts, atom-grows, u .small))
 
     module _ {k : ℕ} (e : k ≡ m .next) {put : List ℕ} (w : put ≡ putAt words k 1 p (end - p) 1) where
-      pub atom-attachable : Attachable put (m .parent) f (atom p n) (drop 4 (drop (4 * filled f) w₀))
-      unfolding linkIn table
-      atom-attachable = record { shown = w ∙ ap (λ (l : ℕ). putAt words k 1 p l 1) (atom-ends .2) ∙ put-shown 1 p n 1 e; linked = h .linked; small = omega (arith, atom-grows, u .small) }
+      pub atom-attachable : Attachable put (m .parent) (m .next) f (atom p n) (drop 4 (drop (4 * filled f) w₀))
+      unfolding filledIn innermostIn tableAt
+      atom-attachable =
+          record {
+            shown = w ∙ ap (λ (l : ℕ). putAt words k 1 p l 1) (atom-ends .2) ∙ put-shown 1 p n 1 e;
+            parents = h .parents;
+            nexts = h .nexts;
+            small = omega (arith, atom-grows, u .small);
+          }
 
-      pub atom-turns : {now : List ℕ} → Attaches put (m .parent) now → Shows w₀ (turn f i) now (record { next = m .next + 1; parent = m .parent })
-      unfolding filledIn linkIn
+      pub atom-turns : {now : List ℕ} → Attaches put (m .parent) (m .next) now → Shows w₀ (turn f i) now (record { next = m .next + 1; parent = m .parent })
+      unfolding filledIn innermostIn
       atom-turns a =
           record {
             shown =
@@ -65,7 +71,7 @@ module _ {w₀ words : List ℕ} {f : Frames} {m : Mark} (h : Shows w₀ (inside
                 ∙ ap (λ (s : Stage). renderIn s ++ drop 4 (drop (4 * filled f) w₀)) (sym atom-turn)
                 ∙ ap (λ (l : List ℕ). renderIn (turn f i) ++ l) (step (filled f) w₀ ∙ ap (λ (j : ℕ). drop (4 * j) w₀) (sym atom-grows));
             nexts = ap (λ (j : ℕ). j + 1) (h .nexts) ∙ sym atom-grows;
-            linked = h .linked ∙ sym (ap linkIn atom-turn ∙ attach-link f (atom p n));
+            parents = h .parents ∙ sym (ap innermostIn atom-turn ∙ attach-innermost f (atom p n));
           }
 
   -- a list's start
@@ -88,40 +94,45 @@ module _ {w₀ words : List ℕ} {f : Frames} {m : Mark} (h : Shows w₀ (inside
     unfolding filledIn
     start-room = (omega (arith, h .nexts, start-grows, u .room), omega (arith, h .nexts, start-grows, u .small))
 
+    -- its distance
+    pub start-back : (m .parent ≤ m .next) × (m .next - m .parent ≡ distance f)
+    unfolding filledIn innermostIn
+    start-back = (omega (arith, h .parents, h .nexts, next-at f), omega (arith, h .parents, h .nexts, next-at f))
+
     pub start-turns :
-        {k : ℕ} → k ≡ m .next → {now : List ℕ} → now ≡ putAt words k 0 0 (m .parent) 0
-        → Shows w₀ (turn f i) now (record { next = m .next + 1; parent = m .next + 1 })
-    unfolding filledIn filled linkIn link renderIn render sizes children tables
+        {k : ℕ} → k ≡ m .next → {now : List ℕ} → now ≡ putAt words k 0 0 (m .next - m .parent) 0
+        → Shows w₀ (turn f i) now (record { next = m .next + 1; parent = m .next })
+    unfolding filledIn filled innermostIn innermost renderIn render sizes children tables
     start-turns e {now} w =
-        subst (λ (s : Stage). Shows w₀ s now (record { next = m .next + 1; parent = m .next + 1 })) (sym start-turn)
+        subst (λ (s : Stage). Shows w₀ s now (record { next = m .next + 1; parent = m .next })) (sym start-turn)
         (record {
           shown =
-              w ∙ put-shown 0 0 (m .parent) 0 e
-              ∙ ap (λ (k : ℕ). render f ++ (0 ∷ 0 ∷ k ∷ 0 ∷ drop 4 (drop (4 * filled f) w₀))) (h .linked)
-              ∙ ap (λ (l : List ℕ). render f ++ (0 ∷ 0 ∷ link f ∷ 0 ∷ l)) (step (filled f) w₀)
-              ∙ sym (append-assoc (render f) (0 ∷ 0 ∷ link f ∷ 0 ∷ []) (drop (4 * (filled f + 1)) w₀));
+              w ∙ put-shown 0 0 (m .next - m .parent) 0 e
+              ∙ ap (λ (k : ℕ). render f ++ (0 ∷ 0 ∷ k ∷ 0 ∷ drop 4 (drop (4 * filled f) w₀))) (start-back .1)
+              ∙ ap (λ (l : List ℕ). render f ++ (0 ∷ 0 ∷ distance f ∷ 0 ∷ l)) (step (filled f) w₀)
+              ∙ sym (append-assoc (render f) (0 ∷ 0 ∷ distance f ∷ 0 ∷ []) (drop (4 * (filled f + 1)) w₀));
           nexts = ap (λ (j : ℕ). j + 1) (h .nexts);
-          linked = ap (λ (j : ℕ). j + 1) (h .nexts);
+          parents = h .nexts;
         })
 
 -- a list's end
 module _ {w₀ words : List ℕ} {m : Mark} {i : ParsedItem} {p end : ℕ} (t : i ≡ ListEnd p) where
   pub end-closable : (f : Frames) → Shows w₀ (inside f) words m → Fits (length words) f i end → CanClose words (m .next) (m .parent)
-  unfolding turn close filledIn linkIn renderIn
+  unfolding turn close filledIn innermostIn renderIn
   end-closable top h u = absurd (u .due p (ap (turn top) t))
-  end-closable (f ▹ c) h u = (f, c, drop (4 * filled (f ▹ c)) w₀, record { shown = h .shown; nexts = h .nexts; linked = h .linked })
+  end-closable (f ▹ c) h u = (f, c, drop (4 * filled (f ▹ c)) w₀, record { shown = h .shown; nexts = h .nexts; parents = h .parents })
 
   pub end-turns :
       (f : Frames) → Shows w₀ (inside f) words m → Fits (length words) f i end → {r : ℕ} {now : List ℕ}
       → Closes words (m .next) (m .parent) r now → Shows w₀ (turn f i) now (record { next = m .next; parent = r })
-  unfolding turn close filledIn linkIn renderIn filled size
+  unfolding turn close filledIn innermostIn renderIn filled size
   end-turns top h u a = absurd (u .due p (ap (turn top) t))
   end-turns (f ▹ c) h u {r} {now} a =
-      let k = a f c (drop (4 * filled (f ▹ c)) w₀) (record { shown = h .shown; nexts = h .nexts; linked = h .linked }) in
+      let k = a f c (drop (4 * filled (f ▹ c)) w₀) (record { shown = h .shown; nexts = h .nexts; parents = h .parents }) in
       let z : filledIn (attach f (list c)) ≡ filled f + (1 + sizes c) = attach-filled f (list c) in
       subst (λ (s : Stage). Shows w₀ s now (record { next = m .next; parent = r })) (sym (ap (turn (f ▹ c)) t))
       (record {
         shown = k .1 ∙ ap (λ (j : ℕ). renderIn (attach f (list c)) ++ drop (4 * j) w₀) (sym z);
         nexts = h .nexts ∙ sym z;
-        linked = k .0 ∙ sym (attach-link f (list c));
+        parents = k .0 ∙ sym (attach-innermost f (list c));
       })

@@ -3,6 +3,7 @@ pub mod DecisionLaws
 pub mod Rows
 pub mod LocalLaws
 pub mod LocalSteps
+pub mod WalkLaws
 pub mod PathLaws
 pub mod ReadSteps
 pub mod PlainItems

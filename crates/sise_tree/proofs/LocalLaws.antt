@@ -1,7 +1,7 @@
 -- A table holds a tree exactly if each node of the first node's span is good: the nodes that a list's count steps over are its children, each with its
--- own span.
+-- own span and, if it is a list, its distance.
 -- Assumes nothing.
-use Prim.Native.Nat.{ℕ, zero, suc, _+_, _*_, _/_, _≤_, _<_}
+use Prim.Native.Nat.{ℕ, zero, suc, _+_, _-_, _*_, _/_, _≤_, _<_}
 use native.Mathlib.Numerals.{one-add}
 use native.Mathlib.Nat.{add-zero}
 use native.Mathlib.Omega.{arith}
@@ -12,18 +12,18 @@ use mathlib.Core.List.{List, _∷_, _++_, append-assoc}
 use lib.Dec.{leb, ltb, eqb}
 use lib.ListN.{length, getD, drop, length-append, length-drop}
 use lib.Seq.{drop-drop, drop-at, getD-drop}
-use borrow.Author.Tests.{ltb-true, ltb-false, leb-true, eqb-true, lt-ltb, le-leb, eq-eqb}
+use borrow.Author.Tests.{ltb-true, ltb-false, leb-true, eqb-true, eqb-false, lt-ltb, le-leb, eq-eqb}
 use Rattle.sise_util.proofs.Ranges.{split, and-first, both}
-use Rattle.sise_tree.specs.Tree.{Node, atom, list, Nodes, empty, _then_, size, sizes, children, table, tables, lies, liesAll, Holds, kind, first, second, span, fills, fillsIn, good, HoldsTree}
+use Rattle.sise_tree.specs.Tree.{Node, atom, list, Nodes, empty, _then_, size, sizes, children, tableAt, tables, lies, liesAll, Holds, kind, first, second, span, linked, fills, fillsIn, good, HoldsTree}
 use Rattle.sise_tree.specs.Decision.{isSome, decide}
-use Rattle.sise_tree.proofs.TreeLaws.{anded, length-table, length-tables, size-pos, row-holds, holds-words, holds-fits}
+use Rattle.sise_tree.proofs.TreeLaws.{anded, length-table, length-tables, size-pos, spelt-holds, holds-words, holds-fits}
 use Rattle.sise_tree.proofs.DecisionLaws.{decide-sound, decide-complete}
 use Rattle.sise_tree.proofs.Rows.{four}
 
-pub fills-le : (words : List ℕ) (c i e : ℕ) → fills words c i e ≡ true → i ≤ e
+pub fills-le : (words : List ℕ) (p c i e : ℕ) → fills words p c i e ≡ true → i ≤ e
 unfolding fills
-fills-le words zero i e h = omega (arith, eqb-true i e h)
-fills-le words (suc c) i e h = let lt = and-first (ltb i e) _ h in omega (arith, ltb-true i e lt)
+fills-le words p zero i e h = omega (arith, eqb-true i e h)
+fills-le words p (suc c) i e h = let lt = and-first (ltb i e) _ h in omega (arith, ltb-true i e lt)
 
 module _ (words : List ℕ) where
   -- the words of a node are these, and these follow it
@@ -46,90 +46,114 @@ module _ (words : List ℕ) where
         within = omega (arith, length-drop (4 * a) words, ap length e);
       }
 
-  pub skip : (n : Node) (a : ℕ) (rest : List ℕ) → drop (4 * a) words ≡ table n ++ rest → drop (4 * (a + size n)) words ≡ rest
-  skip n a rest e =
+  pub skip : (d : ℕ) (n : Node) (a : ℕ) (rest : List ℕ) → drop (4 * a) words ≡ tableAt d n ++ rest → drop (4 * (a + size n)) words ≡ rest
+  skip d n a rest e =
       ap (λ (i : ℕ). drop i words) {x = 4 * (a + size n)} {y = 4 * a + 4 * size n} (omega arith)
       ∙ sym (drop-drop (4 * size n) (4 * a) words)
       ∙ ap (λ (ws : List ℕ). drop (4 * size n) ws) e
-      ∙ drop-at (table n) rest (4 * size n) (length-table n)
+      ∙ drop-at (tableAt d n) rest (4 * size n) (length-table d n)
+
+  -- a list's third word is its distance to its parent
+  linked-third : (p d : ℕ) {a : ℕ} → a ≡ p + d → linked words p a ≡ true → kind words a ≡ 0 → second words a ≡ d
+  unfolding linked
+  linked-third p d {a} z h k = let e = eqb-true (second words a) (a - p) (rw (k, linked) at h) in omega arith
+
+  third-linked : (p d : ℕ) {a : ℕ} (n : Node) (rest : List ℕ) → a ≡ p + d → drop (4 * a) words ≡ tableAt d n ++ rest → linked words p a ≡ true
+  unfolding linked tableAt
+  third-linked p d {a} (atom q m) rest z e = rw (stands a e .kinds)
+  third-linked p d {a} (list c) rest z e = let s = stands a e in rw (s .kinds, linked) (eq-eqb (second words a) (a - p) (omega (arith, s .seconds)))
 
 module _ (l : ℕ) (words : List ℕ) where
   -- each node from a up to e is good
   abbrev pub Each : ℕ → ℕ → Type 0
   Each a e = (k : ℕ) → a ≤ k → k < e → good l words k ≡ true
 
-  -- a row of c nodes from a up to e, made of the checks
-  record Built (c a e : ℕ) : Type 0 where
+  -- node a, d nodes behind its parent, made of the checks
+  record Made (d a : ℕ) : Type 0 where
+    node : Node
+    spelt : drop (4 * a) words ≡ tableAt d node ++ drop (4 * (a + span words a)) words
+    total : size node ≡ span words a
+    inText : lies l node ≡ true
+
+  -- a row of c nodes from a up to e
+  record Built (d c a e : ℕ) : Type 0 where
     nodes : Nodes
     count : children nodes ≡ c
-    spelt : drop (4 * a) words ≡ tables nodes ++ drop (4 * e) words
+    spelt : drop (4 * a) words ≡ tables d nodes ++ drop (4 * e) words
     total : a + sizes nodes ≡ e
     inText : liesAll l nodes ≡ true
 
-  built-none : {a e : ℕ} → a ≡ e → Built 0 a e
+  built-none : {d a e : ℕ} → a ≡ e → Built d 0 a e
   unfolding sizes children tables liesAll
   built-none h = record { nodes = empty; count = refl; spelt = rw h; total = omega arith; inText = refl }
 
-  built-atom :
-      {c a e : ℕ} → 4 * (a + 1) ≤ length words → kind words a ≡ 1 → span words a ≡ 1 → leb (first words a + second words a) l ≡ true
-      → Built c (a + span words a) e → Built (suc c) a e
-  unfolding size sizes children table tables lies liesAll
-  built-atom {a} u k s t more =
+  built-then : {d c a e : ℕ} → Made d a → Built (d + span words a) c (a + span words a) e → Built d (suc c) a e
+  unfolding sizes children tables liesAll
+  built-then {d} {a = a} {e} n more =
       record {
-        nodes = atom (first words a) (second words a) then more .nodes;
+        nodes = n .node then more .nodes;
         count = omega (arith, more .count);
-        spelt = cc (four words a u, more .spelt);
-        total = omega (arith, more .total);
-        inText = both _ _ t (more .inText);
+        spelt = cc (n .spelt, n .total, more .spelt, append-assoc (tableAt d (n .node)) (tables (d + span words a) (more .nodes)) (drop (4 * e) words));
+        total = omega (arith, n .total, more .total);
+        inText = both _ _ (n .inText) (more .inText);
       }
 
-  built-list :
-      {c a e : ℕ} → 4 * (a + 1) ≤ length words → kind words a ≡ 0 → second words a ≡ 0
-      → Built (first words a) (a + 1) (a + span words a) → Built c (a + span words a) e → Built (suc c) a e
-  unfolding size sizes children table tables lies liesAll
-  built-list {a} {e} u k z own more =
-      let total : span words a ≡ 1 + sizes (own .nodes) = omega (arith, own .total) in
-      record {
-        nodes = list (own .nodes) then more .nodes;
-        count = omega (arith, more .count);
-        spelt = cc (four words a u, own .count, own .spelt, more .spelt, append-assoc (tables (own .nodes)) (tables (more .nodes)) (drop (4 * e) words));
-        total = omega (arith, own .total, more .total);
-        inText = both _ _ (own .inText) (more .inText);
-      }
+  made-atom : {d a : ℕ} → 4 * (a + 1) ≤ length words → kind words a ≡ 1 → span words a ≡ 1 → leb (first words a + second words a) l ≡ true → Made d a
+  unfolding size tableAt lies
+  made-atom {a = a} u k s t =
+      record { node = atom (first words a) (second words a); spelt = cc (four words a u); total = sym s; inText = t }
 
-  build : (f c a e : ℕ) → e ≤ a + f → 4 * e ≤ length words → fills words c a e ≡ true → Each a e → Built c a e
-  unfolding fills fillsIn good
-  build zero zero a e d u h each = built-none (eqb-true a e h)
-  build zero (suc c) a e d u h each = absurd (omega (arith, ltb-true a e (and-first (ltb a e) _ h)))
-  build (suc f) zero a e d u h each = built-none (eqb-true a e h)
-  build (suc f) (suc c) a e d u h each =
-      anded h λ lt more.
-      anded more λ some next.
-      let less : a < e = ltb-true a e lt in
-      let le : a + span words a ≤ e = fills-le words c (a + span words a) e next in
-      let here : good l words a ≡ true = each a (omega arith) less in
-      let past : 1 ≤ span words a = leb-true 1 (span words a) some in
-      let rest : Built c (a + span words a) e = build f c (a + span words a) e (omega arith) u next (λ k g. each k (omega arith)) in
+  made-list :
+      {d a : ℕ} → 4 * (a + 1) ≤ length words → kind words a ≡ 0 → second words a ≡ d → Built 1 (first words a) (a + 1) (a + span words a)
+      → Made d a
+  unfolding size tableAt lies
+  made-list {a = a} u k z own =
+      let total : 1 + sizes (own .nodes) ≡ span words a = omega (arith, own .total) in
+      record { node = list (own .nodes); spelt = cc (four words a u, own .count, own .spelt); total = total; inText = own .inText }
+
+  -- a good node is made, if a list's children are
+  made :
+      {d a : ℕ} → 4 * (a + 1) ≤ length words → good l words a ≡ true → (kind words a ≡ 0 → second words a ≡ d)
+      → (fills words a (first words a) (a + 1) (a + span words a) ≡ true → Built 1 (first words a) (a + 1) (a + span words a)) → Made d a
+  unfolding fillsIn good
+  made {a = a} u here third own =
       split (eqb (kind words a) 1)
       (λ k.
       anded (rw (k, good) at here) λ s t.
-      built-atom (omega arith) (eqb-true (kind words a) 1 k) (eqb-true (span words a) 1 s) t rest)
+      made-atom u (eqb-true (kind words a) 1 k) (eqb-true (span words a) 1 s) t)
       (λ k.
       anded (rw (k, good) at here) λ k₀ t.
-      anded t λ z t.
-      anded {a = leb (a + span words a) (length words / 4)} t λ o own.
-      built-list (omega arith) (eqb-true (kind words a) 0 k₀) (eqb-true (second words a) 0 z)
-      (build f (first words a) (a + 1) (a + span words a) (omega arith) (omega arith) own (λ k g o. each k (omega arith) (omega arith)))
-      rest)
+      anded {a = leb (a + span words a) (length words / 4)} t λ o filled.
+      let z = eqb-true (kind words a) 0 k₀ in
+      made-list u z (third z) (own filled))
 
-  pub sound-holds : HoldsTree l words → (n : Node) × Holds l words n
+  build :
+      (f p d c a e : ℕ) → e ≤ a + f → 4 * e ≤ length words → a ≡ p + d → fills words p c a e ≡ true → Each a e → Built d c a e
   unfolding fills
+  build zero p d zero a e b u z h each = built-none (eqb-true a e h)
+  build zero p d (suc c) a e b u z h each = absurd (omega (arith, ltb-true a e (and-first (ltb a e) _ h)))
+  build (suc f) p d zero a e b u z h each = built-none (eqb-true a e h)
+  build (suc f) p d (suc c) a e b u z h each =
+      anded h λ lt more.
+      anded more λ some more.
+      anded more λ third next.
+      let s = span words a in
+      let less : a < e = ltb-true a e lt in
+      let le : a + s ≤ e = fills-le words p c (a + s) e next in
+      let past : 1 ≤ s = leb-true 1 s some in
+      built-then
+      (made (omega arith) (each a (omega arith) less) (linked-third words p d z third)
+      (λ own. build f a 1 (first words a) (a + 1) (a + s) (omega arith) (omega arith) refl own (λ k g o. each k (omega arith) (omega arith))))
+      (build f p (d + s) c (a + s) e (omega arith) u (omega arith) next (λ k g. each k (omega arith)))
+
+  -- the first node's third word is not looked at
+  pub sound-holds : HoldsTree l words → (n : Node) × Holds l words n
   sound-holds s =
       let e = span words 0 in
-      let all : fills words 1 0 e ≡ true = both _ _ (lt-ltb 0 e (s .begun)) (both _ _ (le-leb 1 e (s .begun)) (eq-eqb (0 + e) e (omega arith))) in
-      let b : Built 1 0 e = build e 1 0 e (omega arith) (omega (arith, s .fit)) all (λ k g. s .each k) in
-      let (n, one, holds) = row-holds (b .nodes) (drop (4 * e) words) (b .count) (b .spelt) (b .inText) in
-      (n, holds)
+      let m : Made (second words 0) 0 =
+      made (omega (arith, s .begun, s .fit)) (s .each 0 (s .begun)) (λ k. refl)
+      (λ own. build e 0 1 (first words 0) (0 + 1) (0 + e) (omega arith) (omega (arith, s .fit)) refl own (λ k g o. s .each k (omega arith))) in
+      (m .node, spelt-holds (second words 0) (m .node) (drop (4 * (0 + e)) words) (m .spelt) (m .inText))
 
   each-one : {a : ℕ} → good l words a ≡ true → Each a (a + 1)
   each-one {a} p k h g = let e : a ≡ k = omega arith in rw e at p
@@ -141,39 +165,74 @@ module _ (l : ℕ) (words : List ℕ) where
   unfolding good
   atom-good s t = rw (s .kinds, good) (both _ _ (eq-eqb _ _ (s .spans)) (rw (s .firsts, s .seconds) t))
 
-  list-good : {a c p : ℕ} {rest : List ℕ} → Stands words a 0 c 0 p rest → fillsIn words c (a + 1) (a + p) ≡ true → good l words a ≡ true
+  list-good : {a c d p : ℕ} {rest : List ℕ} → Stands words a 0 c d p rest → fillsIn words a c (a + 1) (a + p) ≡ true → good l words a ≡ true
   unfolding good
-  list-good s t = rw (s .kinds, good) (both _ _ (eq-eqb _ _ (s .seconds)) (rw (s .firsts, s .spans) t))
+  list-good s t = rw (s .kinds, good) (rw (s .firsts, s .spans) t)
 
-  -- in the words of a tree each node is good, and in those of a row the spans fill it too
+  -- in the words of a tree each node is good, and in those of a row of node p's children the spans fill it too
   mutual
-    unfolding fills fillsIn size sizes children table tables lies liesAll
+    unfolding fills fillsIn size sizes children tableAt tables lies liesAll
 
     pub node-local :
-        (n : Node) (a : ℕ) (rest : List ℕ) → drop (4 * a) words ≡ table n ++ rest → lies l n ≡ true
+        (d : ℕ) (n : Node) (a : ℕ) (rest : List ℕ) → drop (4 * a) words ≡ tableAt d n ++ rest → lies l n ≡ true
         → (span words a ≡ size n) × Each a (a + size n)
-    node-local (atom p n) a rest e t = let s = stands words a e in (s .spans, each-one (atom-good s t))
-    node-local (list c) a rest e t =
+    node-local d (atom p n) a rest e t = let s = stands words a e in (s .spans, each-one (atom-good s t))
+    node-local d (list c) a rest e t =
         let s = stands words a e in
-        let (own, each) = row-local c (a + 1) rest (s .after) t in
+        let (own, each) = row-local a 1 c (a + 1) rest refl (s .after) t in
         let z : a + 1 + sizes c ≡ a + (1 + sizes c) = omega arith in
-        let within : a + (1 + sizes c) ≤ length words / 4 = omega (arith, s .within, length-append (tables c) rest, length-tables c) in
+        let within : a + (1 + sizes c) ≤ length words / 4 = omega (arith, s .within, length-append (tables 1 c) rest, length-tables 1 c) in
         (s .spans, each-join (each-one (list-good s (both _ _ (le-leb _ _ within) (rw z at own)))) (rw z at each))
 
     pub row-local :
-        (c : Nodes) (a : ℕ) (rest : List ℕ) → drop (4 * a) words ≡ tables c ++ rest → liesAll l c ≡ true
-        → (fills words (children c) a (a + sizes c) ≡ true) × Each a (a + sizes c)
-    row-local empty a rest e t = (eq-eqb a (a + 0) (omega arith), λ k h g. absurd (omega arith))
-    row-local (n then c) a rest e t =
+        (p d : ℕ) (c : Nodes) (a : ℕ) (rest : List ℕ) → a ≡ p + d → drop (4 * a) words ≡ tables d c ++ rest → liesAll l c ≡ true
+        → (fills words p (children c) a (a + sizes c) ≡ true) × Each a (a + sizes c)
+    row-local p d empty a rest q e t = (eq-eqb a (a + 0) (omega arith), λ k h g. absurd (omega arith))
+    row-local p d (n then c) a rest q e t =
         anded t λ here more.
-        let e′ : drop (4 * a) words ≡ table n ++ (tables c ++ rest) = rw append-assoc at e in
-        let (spans, each) = node-local n a (tables c ++ rest) e′ here in
-        let (next, others) = row-local c (a + size n) rest (skip words n a (tables c ++ rest) e′) more in
+        let after = tables (d + size n) c ++ rest in
+        let e′ : drop (4 * a) words ≡ tableAt d n ++ after = rw append-assoc at e in
+        let (spans, each) = node-local d n a after e′ here in
+        let (next, others) = row-local p (d + size n) c (a + size n) rest (omega arith) (skip words d n a after e′) more in
         let z : a + size n + sizes c ≡ a + (size n + sizes c) = omega arith in (
           rw (one-add (children c), spans)
-              (both _ _ (lt-ltb a _ (omega (arith, size-pos n))) (both _ _ (le-leb 1 _ (size-pos n)) (rw z at next))),
+              (both _ _ (lt-ltb a _ (omega (arith, size-pos n))) (both _ _ (le-leb 1 _ (size-pos n)) (both _ _ (third-linked words p d n after q e′) (rw z at next)))),
           each-join each (rw z at others),
         )
+
+  -- "A subtree is the part of the table from its node": from each node of a tree on, the words hold one
+  abbrev Subtree : ℕ → Type 0
+  Subtree k = (m : Node) × Holds l (drop (4 * k) words) m
+
+  its-subtree : (d : ℕ) (n : Node) (a : ℕ) (rest : List ℕ) → drop (4 * a) words ≡ tableAt d n ++ rest → lies l n ≡ true → Subtree a
+  its-subtree d n a rest e t = (n, spelt-holds d n rest e t)
+
+  mutual
+    unfolding size sizes tableAt tables lies liesAll
+
+    node-subtree :
+        (d : ℕ) (n : Node) (a : ℕ) (rest : List ℕ) → drop (4 * a) words ≡ tableAt d n ++ rest → lies l n ≡ true
+        → (k : ℕ) → a ≤ k → k < a + size n → Subtree k
+    node-subtree d (atom p m) a rest e t k g o = let z : a ≡ k = omega arith in rw z at (its-subtree d (atom p m) a rest e t)
+    node-subtree d (list c) a rest e t k g o =
+        split (eqb a k)
+        (λ z. rw (eqb-true a k z) at (its-subtree d (list c) a rest e t))
+        (λ z. let other = eqb-false a k z in row-subtree 1 c (a + 1) rest (stands words a e .after) t k (omega arith) (omega arith))
+
+    row-subtree :
+        (d : ℕ) (c : Nodes) (a : ℕ) (rest : List ℕ) → drop (4 * a) words ≡ tables d c ++ rest → liesAll l c ≡ true
+        → (k : ℕ) → a ≤ k → k < a + sizes c → Subtree k
+    row-subtree d empty a rest e t k g o = absurd (omega arith)
+    row-subtree d (n then c) a rest e t k g o =
+        anded t λ here more.
+        let after = tables (d + size n) c ++ rest in
+        let e′ : drop (4 * a) words ≡ tableAt d n ++ after = rw append-assoc at e in
+        split (ltb k (a + size n))
+        (λ z. node-subtree d n a after e′ here k g (ltb-true k (a + size n) z))
+        (λ z. row-subtree (d + size n) c (a + size n) rest (skip words d n a after e′) more k (ltb-false k (a + size n) z) (omega arith))
+
+  pub subtree : {n : Node} → Holds l words n → (k : ℕ) → k < size n → Subtree k
+  subtree {n} h k o = node-subtree (second words 0) n 0 (drop (4 * size n) words) (holds-words h) (h .inText) k (omega arith) (omega arith)
 
   -- what a table that holds n has
   pub record Held (n : Node) : Type 0 where
@@ -184,7 +243,7 @@ module _ (l : ℕ) (words : List ℕ) where
 
   holds-held : {n : Node} → Holds l words n → Held n
   holds-held {n} h =
-      let (spans, each) = node-local n 0 (drop (length (table n)) words) (holds-words h) (h .inText) in
+      let (spans, each) = node-local (second words 0) n 0 (drop (4 * size n) words) (holds-words h) (h .inText) in
       let fits = holds-fits h in
       record {
         holds = h;

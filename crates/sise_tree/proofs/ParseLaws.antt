@@ -7,16 +7,16 @@ use mathlib.Core.Path.{_≡_, refl, sym, ap, _∙_}
 use mathlib.Core.Bool.{true, false, false≢true}
 use mathlib.Core.List.{List}
 use lib.ListN.{length, drop}
-use lib.Seq.{take-append-seam}
 use borrow.Author.Tests.{le-leb, leb-true, eqb-true}
 use Rattle.sise_parser.specs.Reader.{listsFit, isSound}
 use Rattle.sise_parser.specs.declared.reader.Phase.{Phase}
 use Rattle.sise_parser.specs.declared.reader.Phase.the-variants.{Beginning, Parsing, Finishing}
 use Rattle.sise_parser.specs.declared.reader.Reader.{Reader}
 use Rattle.sise_parser.proofs.Calls.{sound-parts}
-use Rattle.sise_tree.specs.Tree.{Node, Nodes, size, sizes, table, lies, liesAll, Holds}
+use Rattle.sise_tree.specs.Tree.{Node, Nodes, size, sizes, lies, liesAll, Holds}
 use Rattle.sise_tree.specs.ParseTree.{got, readNode, filledWith}
 use Rattle.sise_tree.specs.Descent.{ReadsNode, one, many, ReadsNodes, none, more}
+use Rattle.sise_tree.proofs.TreeLaws.{words-after}
 use Rattle.sise_tree.proofs.ReadSteps.{begins, took}
 use Rattle.sise_tree.proofs.Descent.{read-descent}
 
@@ -86,7 +86,7 @@ module _ (text : List ℕ) where
     -- so the table that is written holds the node that was read
     pub read-holds : (words : List ℕ) → Holds (length text) (filledWith n words) n
     unfolding filledWith
-    read-holds words = record { begins = take-append-seam (table n) (drop (4 * size n) words); inText = read-lies }
+    read-holds words = words-after (length text) 0 n (drop (4 * size n) words) read-lies
 
     -- the record after it: sound, with the lists open that were
     pub read-sound : isSound (length text) q ≡ true

@@ -57,6 +57,19 @@ node-opens f (ListStart p) t = sym (ap openedIn t)
 node-opens top (ListEnd p) t = absurd (false≢true (ap isInside t))
 node-opens (f ▹ c) (ListEnd p) t = ap (λ (k : ℕ). k + 1) (attach-opens f (list c) t)
 
+-- a node that is not yet whole has a list open
+attach-open : (f : Frames) (n : Node) {g : Frames} → attach f n ≡ inside g → opened g ≡ 0 → ⊥
+unfolding attach opened
+attach-open top n t z = false≢true (ap isInside t)
+attach-open (f ▹ c) n t z = omega (arith, ap openedIn t)
+
+pub inside-open : (f : Frames) (i : ParsedItem) {g : Frames} → turn f i ≡ inside g → opened g ≡ 0 → ⊥
+unfolding turn close opened
+inside-open f (Atom p n) t z = attach-open f (tree.atom p n) t z
+inside-open f (ListStart p) t z = omega (arith, ap openedIn t)
+inside-open top (ListEnd p) t z = false≢true (ap isInside t)
+inside-open (f ▹ c) (ListEnd p) t z = attach-open f (list c) t z
+
 both-open : (i : ParsedItem) (a b c d k : ℕ) → Opens i a b → Opens i c d → c ≡ k + a → d ≡ k + b
 both-open (Atom p n) a b c d k x y z = omega arith
 both-open (ListStart p) a b c d k x y z = omega arith

@@ -13,7 +13,7 @@ use lib.ListN.{length, getD, drop, length-append, length-drop, drop-of-length-le
 use lib.Seq.{drop-cons}
 use borrow.Author.Tests.{ltb-true, leb-true, lt-ltb, le-ltb}
 use Rattle.sise_util.proofs.Ranges.{and-first, and-second, both}
-use Rattle.sise_tree.specs.Tree.{Node, atom, list, Nodes, empty, _then_, size, children, table, tables, lies, liesAll, kind, first, second, span, fills, fillsIn, good}
+use Rattle.sise_tree.specs.Tree.{Node, atom, list, Nodes, empty, _then_, size, children, tableAt, tables, lies, liesAll, kind, first, second, span, linked, fills, fillsIn, good}
 use Rattle.sise_tree.specs.Decision.{isSome, decide}
 use Rattle.sise_tree.specs.ParseTree.{longest}
 use Rattle.sise_tree.specs.Answers.{answered, refusedWith}
@@ -28,32 +28,34 @@ use Rattle.sise_tree.proofs.LocalLaws.{stands, skip, node-local, fills-
 pub record Opened (words : List ℕ) (k i : ℕ) : Type 0 where
   pub inside : i < length words / 4
   pub over : i + span words i ≤ length words / 4
+  parent : ℕ
   count : ℕ
   end : ℕ
   below : k ≤ count
-  filled : fillsIn words count (i + span words i) end ≡ true
+  filled : fillsIn words parent count (i + span words i) end ≡ true
 
 module _ {words : List ℕ} {k i : ℕ} (m : MoreThan words k i) where
   pub opened : Opened words k i
   unfolding fillsIn fills
   opened = of (m .count) (m .below) (m .filled)
     where
-      of : (c : ℕ) → k < c → fillsIn words c i (m .end) ≡ true → Opened words k i
+      of : (c : ℕ) → k < c → fillsIn words (m .parent) c i (m .end) ≡ true → Opened words k i
       of zero b h = absurd (omega arith)
       of (suc c) b h =
           anded {a = leb (m .end) (length words / 4)} h λ o more.
           anded {a = ltb i (m .end)} more λ lt more.
-          anded {a = leb 1 (span words i)} more λ some next.
+          anded {a = leb 1 (span words i)} more λ some more.
+          anded {a = linked words (m .parent) i} more λ third next.
           let e : m .end ≤ length words / 4 = leb-true _ _ o in
           let l : i < m .end = ltb-true _ _ lt in
-          let n : i + span words i ≤ m .end = fills-le words c (i + span words i) (m .end) next in
-          record { inside = omega arith; over = omega arith; count = c; end = m .end; below = omega arith; filled = both _ _ o next }
+          let n : i + span words i ≤ m .end = fills-le words (m .parent) c (i + span words i) (m .end) next in
+          record { inside = omega arith; over = omega arith; parent = m .parent; count = c; end = m .end; below = omega arith; filled = both _ _ o next }
 
   -- w is the span that the code has read
   pub more-step : {w : ℕ} → w ≡ span words i → 0 < k → MoreThan words (k - 1) (i + w)
   more-step r z =
       let o = opened in
-      record { count = o .count; end = o .end; below = omega (arith, o .below); filled = rw r (o .filled) }
+      record { parent = o .parent; count = o .count; end = o .end; below = omega (arith, o .below); filled = rw r (o .filled) }
 
 pub stepped-on : (words : List ℕ) (k i : ℕ) {w : ℕ} → w ≡ span words i → 0 < k → stepped words (k - 1) (i + w) ≡ stepped words k i
 unfolding stepped
@@ -76,13 +78,15 @@ no-child (n then c) i (suc k) path h = no-child c (i + size n) k path (omega ari
 module _ (l : ℕ) (words : List ℕ) where
   -- in the words, node n is node i
   record Stood (n : Node) (i : ℕ) : Type 0 where
+    distance : ℕ
     rest : List ℕ
-    begins : drop (4 * i) words ≡ table n ++ rest
+    begins : drop (4 * i) words ≡ tableAt distance n ++ rest
     inText : lies l n ≡ true
 
   stood-within : {n : Node} {i : ℕ} → Stood n i → 4 * (i + 1) ≤ length words
   stood-within {n} {i} s =
-      omega (arith, size-pos n, length-table n, length-append (table n) (s .rest), length-drop (4 * i) words, ap length (s .begins))
+      let d = s .distance in
+      omega (arith, size-pos n, length-table d n, length-append (tableAt d n) (s .rest), length-drop (4 * i) words, ap length (s .begins))
 
   -- node j is the k-th of the nodes from node i on
   record Found (c : Nodes) (i k j : ℕ) : Type 0 where
@@ -91,16 +95,18 @@ module _ (l : ℕ) (words : List ℕ) where
     same : (path : List ℕ) → childAt c i k path ≡ nodeAt node j path
 
   find :
-      (c : Nodes) (i k : ℕ) (rest : List ℕ) → drop (4 * i) words ≡ tables c ++ rest → liesAll l c ≡ true → k < children c
+      (d : ℕ) (c : Nodes) (i k : ℕ) (rest : List ℕ) → drop (4 * i) words ≡ tables d c ++ rest → liesAll l c ≡ true → k < children c
       → Found c i k (stepped words k i)
   unfolding stepped childAt tables liesAll children
-  find empty i k rest e t h = absurd (omega arith)
-  find (n then c) i zero rest e t h =
-      record { node = n; stood = record { rest = tables c ++ rest; begins = rw append-assoc at e; inText = and-first _ _ t }; same = λ path. refl }
-  find (n then c) i (suc k) rest e t h =
-      let e′ : drop (4 * i) words ≡ table n ++ (tables c ++ rest) = rw append-assoc at e in
-      let spans = node-local l words n i (tables c ++ rest) e′ (and-first _ _ t) .0 in
-      let f = find c (i + size n) k rest (skip words n i (tables c ++ rest) e′) (and-second (lies l n) _ t) (omega arith) in
+  find d empty i k rest e t h = absurd (omega arith)
+  find d (n then c) i zero rest e t h =
+      let after = tables (d + size n) c ++ rest in
+      record { node = n; stood = record { distance = d; rest = after; begins = rw append-assoc at e; inText = and-first _ _ t }; same = λ path. refl }
+  find d (n then c) i (suc k) rest e t h =
+      let after = tables (d + size n) c ++ rest in
+      let e′ : drop (4 * i) words ≡ tableAt d n ++ after = rw append-assoc at e in
+      let spans = node-local l words d n i after e′ (and-first _ _ t) .0 in
+      let f = find (d + size n) c (i + size n) k rest (skip words d n i after e′) (and-second (lies l n) _ t) (omega arith) in
       rw spans (record { node = f .node; stood = f .stood; same = f .same })
 
 -- ---- the code's way
@@ -138,7 +144,7 @@ module _ (words text path : List ℕ) where
     pub at-root : isSome (decide (length text) words) ≡ true → At words text path 0 0
     at-root t =
         let (n, e, h) = held (length text) words t in
-        reached n (record { rest = drop (length (table n)) words; begins = holds-words (h .holds); inText = h .holds .inText })
+        reached n (record { distance = second words 0; rest = drop (4 * size n) words; begins = holds-words (h .holds); inText = h .holds .inText })
         (as-decided ∙ ap (λ (d : Option Node). indexedIn d path) e)
 
 node-here : (n : Node) (i : ℕ) → nodeAt n i [] ≡ some i
@@ -156,7 +162,7 @@ module _ {words text path : List ℕ} {i k : ℕ} (a : At words text path i k) w
 
     -- it is an atom, or a list with too few children
     pub at-none : (kind words i ≡ 0 → first words i ≤ getD path k 0) → indexPath words text path ≡ refusedWith 16
-    unfolding nodeAt table
+    unfolding nodeAt tableAt
     at-none h = going-on ∙ of (a .node) (a .stood)
       where
         of : (n : Node) → Stood (length text) words n i → indexed (nodeAt n i (getD path k 0 ∷ drop (k + 1) path)) ≡ refusedWith 16
@@ -171,11 +177,11 @@ module _ {words text path : List ℕ} {i k : ℕ} (a : At words text path i k) w
       unfolding good
       at-more =
           let s = a .stood in
-          let here = node-local (length text) words (a .node) i (s .rest) (s .begins) (s .inText) .1 i (omega arith) (omega (arith, size-pos (a .node))) in
-          record { count = first words i; end = i + span words i; below = omega arith; filled = and-second (eqb (second words i) 0) _ (rw (z, good) at here) }
+          let here = node-local (length text) words (s .distance) (a .node) i (s .rest) (s .begins) (s .inText) .1 i (omega arith) (omega (arith, size-pos (a .node))) in
+          record { parent = i; count = first words i; end = i + span words i; below = omega arith; filled = rw (z, good) at here }
 
       pub at-child : At words text path (stepped words (getD path k 0) (i + 1)) (k + 1)
-      unfolding nodeAt table lies
+      unfolding nodeAt tableAt lies
       at-child = of (a .node) (a .stood) going-on
         where
           of :
@@ -184,5 +190,5 @@ module _ {words text path : List ℕ} {i k : ℕ} (a : At words text path i k) w
           of (atom p m) s e = absurd (omega (arith, stands words i (s .begins) .kinds))
           of (list c) s e =
               let w = stands words i (s .begins) in
-              let f = find (length text) words c (i + 1) (getD path k 0) (s .rest) (w .after) (s .inText) (omega (arith, r, w .firsts)) in
+              let f = find (length text) words 1 c (i + 1) (getD path k 0) (s .rest) (w .after) (s .inText) (omega (arith, r, w .firsts)) in
               reached (f .node) (f .stood) (e ∙ ap indexed (f .same (drop (k + 1) path)))

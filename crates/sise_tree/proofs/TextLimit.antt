@@ -15,7 +15,7 @@ use Rattle.sise_parser.specs.declared.reader.ParsedItem.the-variants.{Atom}
 use Rattle.sise_parser.specs.declared.reader.Reader.{Reader}
 use Rattle.sise_parser.proofs.Calls.{next-unsound}
 use Rattle.sise_parser.proofs.ReaderLaws.{fresh-sound}
-use Rattle.sise_tree.specs.Tree.{atom, size, table}
+use Rattle.sise_tree.specs.Tree.{atom, size, tableAt}
 use Rattle.sise_tree.specs.Decision.{decide}
 use Rattle.sise_tree.specs.Answers.{answered, refusedWith}
 use Rattle.sise_tree.specs.ParseTree.{longest, top, attach, turn, got, readStage, readAnswer, readFrom, readNode, filledWith, Parses, parsed, parseTree}
@@ -80,5 +80,5 @@ module _ (rest : List ℕ) where
   its-node = ap (λ (x : Next). readAnswer (readFrom (length long) long (x .reader)) (x .reader) top (x .answer)) its-item
 
   pub longest-text : length long ≡ 16777216 → parseTree long freshReader (replicate 4 9) ≡ record { reader = reader 1 Finishing 0; answer = answered 1; words = 1 ∷ 0 ∷ 1 ∷ 1 ∷ [] }
-  unfolding parsed filledWith table size
+  unfolding parsed filledWith tableAt size
   longest-text at = parse-at long at freshReader (replicate 4 9) ∙ ap (parsed freshReader (replicate 4 9)) its-node

@@ -6,7 +6,7 @@ use mathlib.Core.Option.{Option, none, some}
 use mathlib.Core.List.{List, [], _∷_}
 use lib.Dec.{leb, eqb}
 use lib.ListN.{length}
-use Rattle.sise_tree.specs.Tree.{Node, atom, list, Nodes, empty, _then_, sizes}
+use Rattle.sise_tree.specs.Tree.{Node, atom, list, Nodes, empty, _then_, sizes, second}
 
 -- an answer, if the test holds
 unfoldable pub guard : {A : Type 0} → Bool → Option A → Option A
@@ -31,22 +31,22 @@ pub record Read : Type 0 where
 unfoldable pub ahead : Node → Read → Read
 ahead n r = record { nodes = n then r .nodes; rest = r .rest }
 
--- so many nodes from the words on, over a text of l bytes; the first number bounds the nodes
-unfoldable pub row : ℕ → ℕ → ℕ → List ℕ → Option Read
-row zero l c ws = none
-row (suc f) l zero ws = some (record { nodes = empty; rest = ws })
-row (suc f) l (suc c) [] = none
-row (suc f) l (suc c) (k ∷ []) = none
-row (suc f) l (suc c) (k ∷ a ∷ []) = none
-row (suc f) l (suc c) (k ∷ a ∷ b ∷ []) = none
-row (suc f) l (suc c) (k ∷ a ∷ b ∷ s ∷ ws) =
+-- so many nodes from the words on, the first of which stands d nodes behind their parent, over a text of l bytes; the first number bounds the nodes
+unfoldable pub row : ℕ → ℕ → ℕ → ℕ → List ℕ → Option Read
+row zero l d c ws = none
+row (suc f) l d zero ws = some (record { nodes = empty; rest = ws })
+row (suc f) l d (suc c) [] = none
+row (suc f) l d (suc c) (k ∷ []) = none
+row (suc f) l d (suc c) (k ∷ a ∷ []) = none
+row (suc f) l d (suc c) (k ∷ a ∷ b ∷ []) = none
+row (suc f) l d (suc c) (k ∷ a ∷ b ∷ s ∷ ws) =
     elim (eqb k 1) [
-      | true ↦ guard (eqb s 1) (guard (leb (a + b) l) (bind (row f l c ws) (λ r. some (ahead (atom a b) r))))
+      | true ↦ guard (eqb s 1) (guard (leb (a + b) l) (bind (row f l (d + 1) c ws) (λ r. some (ahead (atom a b) r))))
       | false ↦
           guard (eqb k 0)
-          (guard (eqb b 0)
-          (bind (row f l a ws)
-          (λ r. guard (eqb s (1 + sizes (r .nodes))) (bind (row f l c (r .rest)) (λ q. some (ahead (list (r .nodes)) q))))))
+          (guard (eqb b d)
+          (bind (row f l 1 a ws)
+          (λ r. guard (eqb s (1 + sizes (r .nodes))) (bind (row f l (d + s) c (r .rest)) (λ q. some (ahead (list (r .nodes)) q))))))
     ]
 
 -- the node of a row of one
@@ -54,6 +54,7 @@ unfoldable pub only : Nodes → Option Node
 only empty = none
 only (n then c) = some n
 
--- the tree that the words hold, over a text of l bytes: `some n` exactly if they hold n (proofs/DecisionLaws.antt)
+-- the tree that the words hold, over a text of l bytes: `some n` exactly if they hold n (proofs/DecisionLaws.antt); the first node's third word is compared
+-- with itself, and so not looked at
 unfoldable pub decide : ℕ → List ℕ → Option Node
-decide l words = bind (row (suc (length words)) l 1 words) (λ r. only (r .nodes))
+decide l words = bind (row (suc (length words)) l (second words 0) 1 words) (λ r. only (r .nodes))

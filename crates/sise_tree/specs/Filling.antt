@@ -10,7 +10,7 @@ use Rattle.sise_parser.specs.declared.reader.Phase.{Phase}
 use Rattle.sise_parser.specs.declared.reader.Reader.{Reader}
 use Rattle.sise_parser.specs.declared.reader.ParsedItem.{ParsedItem}
 use Rattle.sise_parser.specs.declared.reader.ParsedItem.the-variants.{Atom, ListStart, ListEnd}
-use Rattle.sise_tree.specs.Tree.{Node, list, Nodes, size, sizes, children, table, tables}
+use Rattle.sise_tree.specs.Tree.{Node, list, Nodes, size, sizes, children, tableAt, table, tables}
 use Rattle.sise_tree.specs.Answers.{Answer, answered, refused, parsedAs}
 use Rattle.sise_tree.specs.ParseTree.{longest, Frames, top, _▹_, Stage, inside, whole, closes, attach, turn, ReadNode, got, stopped, readFrom, readNode, filledWith}
 use Rattle.sise_tree.specs.declared.parse.TreeRead.{TreeRead}
@@ -73,15 +73,20 @@ CountsOn text before c = (r₀ : Reader) (h : Phase) (f : Frames) → CountsAt t
 
 -- ---- filling
 
--- the innermost list's index and one, or 0 for none: what a list inside it has for its third word while that is open
-unfoldable pub link : Frames → ℕ
-link top = 0
-link (f ▹ c) = filled f + 1
+-- the innermost open list's index; where none is open, that of the root, which is its own parent
+unfoldable pub innermost : Frames → ℕ
+innermost top = 0
+innermost (f ▹ c) = filled f
+
+-- how far behind it the next node stands
+unfoldable pub distance : Frames → ℕ
+distance top = 0
+distance (f ▹ c) = 1 + sizes c
 
 -- the words so far: an open list has no span yet
 unfoldable pub render : Frames → List ℕ
 render top = []
-render (f ▹ c) = render f ++ (0 ∷ children c ∷ link f ∷ 0 ∷ tables c)
+render (f ▹ c) = render f ++ (0 ∷ children c ∷ distance f ∷ 0 ∷ tables 1 c)
 
 -- the same of a stage; where a `)` was met in a node's place nothing is filled
 unfoldable pub filledIn : Stage → ℕ
@@ -89,10 +94,10 @@ filledIn (inside f) = filled f
 filledIn (whole n) = size n
 filledIn (closes p) = 0
 
-unfoldable pub linkIn : Stage → ℕ
-linkIn (inside f) = link f
-linkIn (whole n) = 0
-linkIn (closes p) = 0
+unfoldable pub innermostIn : Stage → ℕ
+innermostIn (inside f) = innermost f
+innermostIn (whole n) = 0
+innermostIn (closes p) = 0
 
 unfoldable pub renderIn : Stage → List ℕ
 renderIn (inside f) = render f
@@ -103,36 +108,38 @@ renderIn (closes p) = []
 unfoldable pub putAt : List ℕ → ℕ → ℕ → ℕ → ℕ → ℕ → List ℕ
 putAt words i k a b s = take (4 * i) words ++ (k ∷ a ∷ b ∷ s ∷ drop (4 * (i + 1)) words)
 
--- a node was put after the words of open lists, of which the innermost is to count it
-pub record Attachable (words : List ℕ) (parent : ℕ) (f : Frames) (n : Node) (rest : List ℕ) : Type 0 where
-  pub shown : words ≡ render f ++ (table n ++ rest)
-  pub linked : parent ≡ link f
+-- the node `child` was put after the words of open lists, of which the innermost is to count it
+pub record Attachable (words : List ℕ) (parent child : ℕ) (f : Frames) (n : Node) (rest : List ℕ) : Type 0 where
+  pub shown : words ≡ render f ++ (tableAt (distance f) n ++ rest)
+  pub parents : parent ≡ innermost f
+  pub nexts : child ≡ filled f
   pub small : filled f + 1 < 2 ^ 32
 
-abbrev pub CanAttach : List ℕ → ℕ → Type 0
-CanAttach words parent = (f : Frames) × (n : Node) × (rest : List ℕ) × Attachable words parent f n rest
+abbrev pub CanAttach : List ℕ → ℕ → ℕ → Type 0
+CanAttach words parent child = (f : Frames) × (n : Node) × (rest : List ℕ) × Attachable words parent child f n rest
 
-abbrev pub Attaches : List ℕ → ℕ → List ℕ → Type 0
-Attaches words parent now = (f : Frames) (n : Node) (rest : List ℕ) → Attachable words parent f n rest → now ≡ renderIn (attach f n) ++ rest
+abbrev pub Attaches : List ℕ → ℕ → ℕ → List ℕ → Type 0
+Attaches words parent child now =
+    (f : Frames) (n : Node) (rest : List ℕ) → Attachable words parent child f n rest → now ≡ renderIn (attach f n) ++ rest
 
 -- the innermost list is to be closed
 pub record Closable (words : List ℕ) (next parent : ℕ) (f : Frames) (c : Nodes) (rest : List ℕ) : Type 0 where
   pub shown : words ≡ render (f ▹ c) ++ rest
   pub nexts : next ≡ filled (f ▹ c)
-  pub linked : parent ≡ link (f ▹ c)
+  pub parents : parent ≡ innermost (f ▹ c)
 
 abbrev pub CanClose : List ℕ → ℕ → ℕ → Type 0
 CanClose words next parent = (f : Frames) × (c : Nodes) × (rest : List ℕ) × Closable words next parent f c rest
 
 abbrev pub Closes : List ℕ → ℕ → ℕ → ℕ → List ℕ → Type 0
 Closes words next parent r now =
-    (f : Frames) (c : Nodes) (rest : List ℕ) → Closable words next parent f c rest → (r ≡ link f) × (now ≡ renderIn (attach f (list c)) ++ rest)
+    (f : Frames) (c : Nodes) (rest : List ℕ) → Closable words next parent f c rest → (r ≡ innermost f) × (now ≡ renderIn (attach f (list c)) ++ rest)
 
 -- the table, which had the words w₀, and the filling's mark stand for a stage
 pub record Shows (w₀ : List ℕ) (s : Stage) (words : List ℕ) (m : Mark) : Type 0 where
   pub shown : words ≡ renderIn s ++ drop (4 * filledIn s) w₀
   pub nexts : m .next ≡ filledIn s
-  pub linked : m .parent ≡ linkIn s
+  pub parents : m .parent ≡ innermostIn s
 
 abbrev pub mark : ℕ → ℕ → Mark
 mark i p = record { next = i; parent = p }

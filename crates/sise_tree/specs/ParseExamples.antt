@@ -12,7 +12,7 @@ use Rattle.sise_parser.specs.Lexer.{wrong, between, comment, plain, string, esc
 use Rattle.sise_parser.specs.Reader.{reader, freshReader, isSound, tokenAt, inBeginning, inParsing, nextIn, nextItem}
 use Rattle.sise_parser.specs.Examples.{workedText}
 use Rattle.sise_parser.specs.declared.reader.Phase.the-variants.{Parsing, Finishing}
-use Rattle.sise_tree.specs.Tree.{size, sizes, children, table, tables}
+use Rattle.sise_tree.specs.Tree.{size, sizes, children, tableAt, tables}
 use Rattle.sise_tree.specs.Answers.{answered, refused, refusedWith}
 use Rattle.sise_tree.specs.ParseTree.{snoc, attach, close, turn, readStage, readAnswer, readFrom, readNode, filledWith, parsed, parseTree}
 
@@ -23,22 +23,22 @@ pub worked-tree : parseTree workedText freshReader (replicate 26 9) ≡ record {
   words =
       0 ∷ 3 ∷ 0 ∷ 6 ∷
       1 ∷ 1 ∷ 1 ∷ 1 ∷
-      0 ∷ 2 ∷ 0 ∷ 3 ∷
+      0 ∷ 2 ∷ 2 ∷ 3 ∷
       1 ∷ 4 ∷ 2 ∷ 1 ∷
       1 ∷ 7 ∷ 5 ∷ 1 ∷
       1 ∷ 14 ∷ 1 ∷ 1 ∷
       9 ∷ 9 ∷ [];
 }
-unfolding workedText parseTree parsed filledWith readNode readFrom readAnswer readStage turn close attach snoc table tables size sizes children nextItem nextIn isSound tokenAt inBeginning inParsing between comment plain string escape classOf within
+unfolding workedText parseTree parsed filledWith readNode readFrom readAnswer readStage turn close attach snoc tableAt tables size sizes children nextItem nextIn isSound tokenAt inBeginning inParsing between comment plain string escape classOf within
 worked-tree = refl
 
--- after its `z`: the inner list is read as a tree of its own, and the reader is behind it
+-- after its `z`: the inner list is read as a tree of its own, whose root it is, and the reader is behind it
 pub inner-tree : parseTree workedText (reader 2 Parsing 1) (replicate 12 9) ≡ record {
   reader = reader 13 Parsing 1;
   answer = answered 3;
   words = 0 ∷ 2 ∷ 0 ∷ 3 ∷ 1 ∷ 4 ∷ 2 ∷ 1 ∷ 1 ∷ 7 ∷ 5 ∷ 1 ∷ [];
 }
-unfolding workedText parseTree parsed filledWith readNode readFrom readAnswer readStage turn close attach snoc table tables size sizes children nextItem nextIn isSound tokenAt inBeginning inParsing between comment plain string escape classOf within
+unfolding workedText parseTree parsed filledWith readNode readFrom readAnswer readStage turn close attach snoc tableAt tables size sizes children nextItem nextIn isSound tokenAt inBeginning inParsing between comment plain string escape classOf within
 inner-tree = refl
 
 -- row 12: `()` after its list start

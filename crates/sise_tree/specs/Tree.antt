@@ -1,6 +1,6 @@
--- Trees and their tables (document 01, "Trees").
+-- Trees and their tables (document 01, "Trees", and 02, 2.6).
 -- Assumes nothing.
-use Prim.Native.Nat.{ℕ, _+_, _*_, _/_, _≤_, _<_, zero, suc, max}
+use Prim.Native.Nat.{ℕ, _+_, _-_, _*_, _/_, _≤_, _<_, zero, suc}
 use mathlib.Core.Path.{_≡_}
 use mathlib.Core.Bool.{Bool, true, _&&_, cond}
 use mathlib.Core.List.{List, [], _∷_, _++_}
@@ -33,24 +33,20 @@ children empty = 0
 children (n then c) = 1 + children c
 
 unfoldable mutual
-  -- the most lists that are open at once in it
-  pub depth : Node → ℕ
-  depth (atom p n) = 0
-  depth (list c) = 1 + depths c
+  -- "four a node, children after their list in order. List: 0, children", then 02's "distance in nodes back to its parent" d, "nodes in it with itself.
+  -- Atom: 1, place, length, 1"
+  pub tableAt : ℕ → Node → List ℕ
+  tableAt d (atom p n) = 1 ∷ p ∷ n ∷ 1 ∷ []
+  tableAt d (list c) = 0 ∷ children c ∷ d ∷ (1 + sizes c) ∷ tables 1 c
 
-  pub depths : Nodes → ℕ
-  depths empty = 0
-  depths (n then c) = max (depth n) (depths c)
+  -- of nodes in a row, the first of which stands d nodes behind their parent
+  pub tables : ℕ → Nodes → List ℕ
+  tables d empty = []
+  tables d (n then c) = tableAt d n ++ tables (d + size n) c
 
-unfoldable mutual
-  -- "four a node, children after their list in order. List: 0, children, 0, nodes in it with itself. Atom: 1, place, length, 1"
-  pub table : Node → List ℕ
-  table (atom p n) = 1 ∷ p ∷ n ∷ 1 ∷ []
-  table (list c) = 0 ∷ children c ∷ 0 ∷ (1 + sizes c) ∷ tables c
-
-  pub tables : Nodes → List ℕ
-  tables empty = []
-  tables (n then c) = table n ++ tables c
+-- "0 at the root"
+abbrev pub table : Node → List ℕ
+table n = tableAt 0 n
 
 unfoldable mutual
   -- "each atom lies in the text", which has l bytes
@@ -61,13 +57,6 @@ unfoldable mutual
   pub liesAll : ℕ → Nodes → Bool
   liesAll l empty = true
   liesAll l (n then c) = lies l n && liesAll l c
-
--- the words begin with the node's table, and its atoms lie in a text of l bytes
-pub record Holds (l : ℕ) (words : List ℕ) (n : Node) : Type 0 where
-  pub begins : take (length (table n)) words ≡ table n
-  pub inText : lies l n ≡ true
-
--- ---- the same, as document 01 says it of the words
 
 -- the four words of node i
 abbrev pub kind : List ℕ → ℕ → ℕ
@@ -82,21 +71,33 @@ second words i = getD words (4 * i + 2) 0
 abbrev pub span : List ℕ → ℕ → ℕ
 span words i = getD words (4 * i + 3) 0
 
--- from node i on, the spans of so many nodes end exactly at node e
-unfoldable pub fills : List ℕ → ℕ → ℕ → ℕ → Bool
-fills words zero i e = eqb i e
-fills words (suc c) i e = ltb i e && (leb 1 (span words i) && fills words c (i + span words i) e)
+-- the words begin with the node's table, and its atoms lie in a text of l bytes; a list's third word is "not looked at in the first node lent", and so taken
+-- as it stands
+pub record Holds (l : ℕ) (words : List ℕ) (n : Node) : Type 0 where
+  pub begins : take (length (table n)) words ≡ tableAt (second words 0) n
+  pub inText : lies l n ≡ true
+
+-- ---- the same, as document 01 says it of the words
+
+-- node i, a child of node p, if it is a list, has the distance to it as its third word
+unfoldable pub linked : List ℕ → ℕ → ℕ → Bool
+linked words p i = cond (eqb (kind words i) 0) (eqb (second words i) (i - p)) true
+
+-- from node i on, the spans of so many children of node p end exactly at node e
+unfoldable pub fills : List ℕ → ℕ → ℕ → ℕ → ℕ → Bool
+fills words p zero i e = eqb i e
+fills words p (suc c) i e = ltb i e && (leb 1 (span words i) && (linked words p i && fills words p c (i + span words i) e))
 
 -- the same, and node e is in the table or just past it
-unfoldable pub fillsIn : List ℕ → ℕ → ℕ → ℕ → Bool
-fillsIn words c i e = leb e (length words / 4) && fills words c i e
+unfoldable pub fillsIn : List ℕ → ℕ → ℕ → ℕ → ℕ → Bool
+fillsIn words p c i e = leb e (length words / 4) && fills words p c i e
 
 -- node i "has one of these forms", a list's "children fill its span exactly", an atom "lies in the text"
 unfoldable pub good : ℕ → List ℕ → ℕ → Bool
 good l words i =
     cond (eqb (kind words i) 1)
     (eqb (span words i) 1 && leb (first words i + second words i) l)
-    (eqb (kind words i) 0 && (eqb (second words i) 0 && fillsIn words (first words i) (i + 1) (i + span words i)))
+    (eqb (kind words i) 0 && fillsIn words i (first words i) (i + 1) (i + span words i))
 
 -- "A table holds a tree when the first node's nodes fit and each has one of these forms, each list's children fill its span exactly, and each atom lies
 -- in the text"

@@ -202,7 +202,8 @@ pub(crate) fn count_nodes(text: &[u8], reader: Reader) -> TreeRead
     TreeRead { reader: r, answer }
 }
 
-// Where the filling stands: the index of the next node, and the link to the innermost open list. A link is a node's index and one, or 0 for none.
+// Where the filling stands: the index of the next node, and that of the innermost open list. Where none is open, both are 0: the root is its own parent, at
+// the distance 0.
 struct Mark {
     next: u32,
     parent: u32,
@@ -219,31 +220,29 @@ fn put(table: &mut [u32], i: usize, kind: u32, first: u32, second: u32, span: u3
     table[4 * i + 3] = span;
 }
 
-// The list of the link `parent` has one child more.
-fn count_child(table: &mut [u32], parent: u32)
-    requires { ⌜ CanAttach (now table) parent ⌝ }
-    ensures { λ r. ⌜ Attaches (now (table .entry)) parent (now (table .exit)) ⌝ }
+// The list `parent` has one child more, node `child`; the root is no child.
+fn count_child(table: &mut [u32], parent: u32, child: u32)
+    requires { ⌜ CanAttach (now table) parent child ⌝ }
+    ensures { λ r. ⌜ Attaches (now (table .entry)) parent child (now (table .exit)) ⌝ }
 {
-    if parent == 0 {
+    if child == parent {
         return;
     }
-    let i = wide(parent) - 1;
+    let i = wide(parent);
     let count = table[4 * i + 1];
     table[4 * i + 1] = count + 1;
 }
 
-// The list of the link `parent` ends before node `next`. Its own link, which its third word held, is handed back.
+// The list `parent` ends before node `next`. Its own parent, to which its third word leads back, is handed back.
 fn close_list(table: &mut [u32], next: u32, parent: u32) -> u32
     requires { ⌜ CanClose (now table) next parent ⌝ }
     ensures { λ r. ⌜ Closes (now (table .entry)) next parent r (now (table .exit)) ⌝ }
 {
-    let first = parent - 1;
-    let i = wide(first);
-    let link = table[4 * i + 2];
-    table[4 * i + 2] = 0;
-    table[4 * i + 3] = next - first;
-    count_child(table, link);
-    link
+    let i = wide(parent);
+    let outer = parent - table[4 * i + 2];
+    table[4 * i + 3] = next - parent;
+    count_child(table, outer, parent);
+    outer
 }
 
 // An atom from `pos` to `end` is written, and counted as a child.
@@ -253,15 +252,15 @@ fn put_atom(table: &mut [u32], next: u32, parent: u32, pos: usize, end: usize)
 {
     let len = end - pos;
     put(table, wide(next), 1, pos as u32, len as u32, 1);
-    count_child(table, parent);
+    count_child(table, parent, next);
 }
 
-// A list that begins is written. While it is open, its third word is the link to its parent.
+// A list that begins is written, with the distance to its parent, which does not change.
 fn put_start(table: &mut [u32], next: u32, parent: u32)
     requires { ⌜ CanStart (now table) (mark next parent) ⌝ }
-    ensures { λ r. ⌜ Starts (now (table .entry)) (mark next parent) (mark (next + 1) (next + 1)) (now (table .exit)) ⌝ }
+    ensures { λ r. ⌜ Starts (now (table .entry)) (mark next parent) (mark (next + 1) next) (now (table .exit)) ⌝ }
 {
-    put(table, wide(next), 0, 0, parent, 0);
+    put(table, wide(next), 0, 0, next - parent, 0);
 }
 
 // An item that ends at `end` is written. An atom's length is worked out from it, since place and length, read together where item_ahead wrote them one by
@@ -284,7 +283,7 @@ fn put_item(table: &mut [u32], mark: Mark, item: ParsedItem, end: usize) -> Mark
             put_start(table, next, parent);
             Mark {
                 next: next + 1,
-                parent: next + 1,
+                parent: next,
             }
         }
         ParsedItem::ListEnd { .. } => {
@@ -322,8 +321,8 @@ fn fill_plain(text: &[u8], table: &mut [u32], before: Filled) -> Filled
             put_start(table, next, parent);
             position = start + 1;
             depth += 1;
-            next += 1;
             parent = next;
+            next += 1;
         } else if byte == b')' {
             if depth == 1 {
                 break;
@@ -366,7 +365,7 @@ pub(crate) fn fill_nodes(text: &[u8], reader: Reader, table: &mut [u32])
             return;
         };
         mark = put_item(table, mark, item, r.position);
-        if mark.parent == 0 {
+        if r.lists == reader.lists {
             return;
         }
         let run = fill_plain(

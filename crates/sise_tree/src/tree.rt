@@ -1,9 +1,10 @@
 // Tables: whether one holds a tree, and the node at the end of a path.
 ghost use mathlib.Core.Path.{_≡_};
 ghost use Prim.Native.Nat.{_+_, _-_, _*_, _/_, _^_, _≤_, _<_};
+ghost use lib.Dec.{eqb};
 ghost use lib.ListN.{length, getD};
-ghost use Rattle.sise_tree.specs.Tree.{fillsIn};
-ghost use Rattle.sise_tree.specs.Parts.{goodIn, stepped, MoreThan};
+ghost use Rattle.sise_tree.specs.Tree.{kind, linked, fillsIn};
+ghost use Rattle.sise_tree.specs.Parts.{SameFrom, goodIn, stepped, MoreThan};
 ghost use Rattle.sise_tree.specs.Decision.{decide, isSome};
 ghost use Rattle.sise_tree.specs.IndexPath.{indexPath};
 ghost use Rattle.sise_tree.specs.Answers.{indexedAs, numberOf};
@@ -49,16 +50,27 @@ fn word(table: &[u32], i: usize, j: usize) -> usize
     wide(table[4 * i + j])
 }
 
-// How many nodes from `at` on, `left` at most and before node `end`, have the span 1, as atoms have. Counted so, the next node's place does not wait for
-// the word that says how far it is.
+// Whether node `i` is a list.
+fn is_list(table: &[u32], i: usize) -> bool
+    requires { ⌜ i < length (now table) / 4 ⌝ }
+    ensures { λ r. ⌜ r ≡ eqb (kind (now (table .entry)) i) 0 ⌝ }
+{
+    table[4 * i] == 0
+}
+
+// How many nodes from `at` on, `left` at most and before node `end`, are no lists and have the span 1, as atoms have. Counted so, the next node's place does
+// not wait for the word that says how far it is.
 fn singles(table: &[u32], left: usize, at: usize, end: usize) -> usize
     requires { ⌜ (end ≤ length (now table) / 4) × (at < end) ⌝ }
-    ensures same { λ r. ⌜ fillsIn (now (table .entry)) (left - r) (at + r) end ≡ fillsIn (now (table .entry)) left at end ⌝ }
+    ensures same { λ r. ⌜ SameFrom (now (table .entry)) left at end r ⌝ }
     ensures few { λ r. ⌜ r ≤ left ⌝ }
     ensures within { λ r. ⌜ at + r ≤ end ⌝ }
 {
     let mut run = 0;
     while run < left && at + run < end {
+        if is_list(table, at + run) {
+            return run;
+        }
         if word(table, at + run, 3) != 1 {
             return run;
         }
@@ -67,15 +79,28 @@ fn singles(table: &[u32], left: usize, at: usize, end: usize) -> usize
     run
 }
 
-// Whether the spans of `children` nodes, from node `from` on, end exactly at node `end`, which is in the table or just past it.
-fn fills(table: &[u32], children: usize, from: usize, end: usize) -> bool
-    ensures { λ r. ⌜ r ≡ fillsIn (now (table .entry)) children from end ⌝ }
+// Whether node `i`, a child of node `parent`, has the distance to it as its third word, if it is a list.
+fn is_linked(table: &[u32], parent: usize, i: usize) -> bool
+    requires { ⌜ (parent ≤ i) × (i < length (now table) / 4) ⌝ }
+    ensures { λ r. ⌜ r ≡ linked (now (table .entry)) parent i ⌝ }
+{
+    if !is_list(table, i) {
+        return true;
+    }
+    word(table, i, 2) == i - parent
+}
+
+// Whether the spans of so many children of node `parent`, which stand after it, end exactly at node `end`, which is in the table or just past it, and each
+// list among them has its distance.
+fn fills(table: &[u32], parent: usize, children: usize, end: usize) -> bool
+    requires { ⌜ parent < length (now table) / 4 ⌝ }
+    ensures { λ r. ⌜ r ≡ fillsIn (now (table .entry)) parent children (parent + 1) end ⌝ }
 {
     if end > table.len() / 4 {
         return false;
     }
     let mut left = children;
-    let mut at = from;
+    let mut at = parent + 1;
     while left > 0 {
         if at >= end {
             return false;
@@ -89,6 +114,9 @@ fn fills(table: &[u32], children: usize, from: usize, end: usize) -> bool
             if span == 0 {
                 return false;
             }
+            if !is_linked(table, parent, at) {
+                return false;
+            }
             at += span;
             left -= 1;
         }
@@ -96,7 +124,7 @@ fn fills(table: &[u32], children: usize, from: usize, end: usize) -> bool
     at == end
 }
 
-// Whether node `i` is in the table and has one of the two forms.
+// Whether node `i` is in the table and has one of the two forms. A list's third word is looked at where its parent steps over it.
 fn node_holds(text_len: usize, table: &[u32], i: usize) -> bool
     ensures { λ r. ⌜ r ≡ goodIn «text_len» (now (table .entry)) i ⌝ }
 {
@@ -108,7 +136,7 @@ fn node_holds(text_len: usize, table: &[u32], i: usize) -> bool
     let second = word(table, i, 2);
     let span = word(table, i, 3);
     match kind {
-        0 => second == 0 && fills(table, first, i + 1, i + span),
+        0 => fills(table, i, first, i + span),
         1 => span == 1 && first + second <= text_len,
         _ => false,
     }

@@ -1,32 +1,35 @@
--- Making calls one after the other: what each accepted call does to the number of open lists, and that what is left of the calls fits, and writes, as the
--- whole does.
+-- Calls made one after the other, all accepted: the record after them, the bytes of each, and that what is left of the calls does as the whole does.
 -- Assumes nothing.
-use Prim.Native.Nat.{ℕ, _+_, _-_, _≤_}
+use Prim.Native.Nat.{ℕ, _+_, _-_, _≤_, _<_}
+use native.Mathlib.Nat.{add-zero}
 use native.Mathlib.Omega.{arith}
 use mathlib.Core.Path.{_≡_, refl, sym, ap, _∙_}
 use mathlib.Core.Bool.{Bool, true, false, cond, false≢true}
 use mathlib.Core.List.{List, [], _∷_, _++_}
-use lib.Dec.{leb}
-use lib.ListN.{length, take, drop, length-append, length-take, length-drop}
-use borrow.Author.Tests.{leb-true, leb-false, eqb-true, eq-eqb, ne-eqb}
+use lib.Dec.{leb, ltb, eqb}
+use lib.ListN.{length, take, drop, length-append, length-drop}
+use borrow.Author.Tests.{leb-true, leb-false, lt-ltb, le-ltb, eqb-true}
 use Rattle.sise_util.specs.Atom.{isAtom, isAtomPrefix}
 use Rattle.sise_util.proofs.Ranges.{split, and-first, and-second}
 use Rattle.sise_parser.specs.Reader.{partOf}
 use Rattle.sise_serializer.specs.Bytes.{pasted}
 use Rattle.sise_serializer.specs.Serializer as writer
-use Rattle.sise_serializer.specs.Serializer.{Style, Piece, Written, deepest, listsFit, isSound, firstAtom, firstList, inner, innerAs, close, closeAs, last}
+use Rattle.sise_serializer.specs.Serializer.{Style, Piece, Written, listsFit, isSound, Gap, newLine, nothing, space, gapAt, newLineOf, laid, firstAtom, firstList, inner, innerAs, close, closeAs, last}
 use Rattle.sise_serializer.specs.declared.serializer.Phase.{Phase}
 use Rattle.sise_serializer.specs.declared.serializer.Phase.the-variants.{Beginning}
 use Rattle.sise_serializer.specs.declared.serializer.Serializer.{Serializer}
-use Rattle.sise_serializer.proofs.serializer.Put as puts
-use Rattle.sise_serializer.proofs.Does.{put-unsound, begin-unsound, end-unsound, finish-unsound}
-use Rattle.sise_serializer.proofs.Sound.{sound}
-use Rattle.sise_serializer.specs.Calls.{Call, putAtomCall, beginListCall, endListCall, finishCall, step, run}
-use Rattle.sise_layout.proofs.Buffers.{pasted-length}
+use Rattle.sise_serializer.specs.Calls.{Call, putAtomCall, beginListCall, endListCall, finishCall, isAccepted, step, run}
+use Rattle.sise_serializer.proofs.Sound.{sound, writing-lists}
+use Rattle.sise_serializer.proofs.Kept.{sound-kept}
 use Rattle.sise_serializer.proofs.Verdicts.{Puts, atomAlone, atomInside, listFirst, listInside, listClosed, textEnded, Verdict, refuses, puts, verdict}
-use Rattle.sise_tree.specs.Tree.{kind, first, second}
+use Rattle.sise_layout.proofs.Buffers.{pasted-length}
 use Rattle.sise_tree_writer.specs.SerializeTree.{fits}
-use Rattle.sise_tree_writer.specs.Writing.{callAt}
+use Rattle.sise_tree_writer.specs.Planning.{itemCall, turnCall, turnLayout, turnToken}
+use Rattle.sise_tree_writer.specs.Walking.{writtenIf, after, firstAnswer}
+
+-- a refusal is no acceptance
+no-offset : {A : Type 0} {n o : ℕ} → writer.Answer.refused n ≡ writer.Answer.accepted o → A
+no-offset {n = n} {o} e = let z : _≡_ {A = ℕ} 0 1 = cc in absurd (omega arith)
 
 -- an atom that was checked where it lies is one
 pub checked-atom : (text : List ℕ) (p m : ℕ) → isAtomPrefix (drop p text) m ≡ true → isAtom (partOf text p m) ≡ true
@@ -39,15 +42,55 @@ checked-atom text p m h =
     let z : m ≡ 0 = omega (arith, leb-false (p + m) (length text) e, length-drop p text) in
     absurd (false≢true (ap (λ (k : ℕ). isAtom (take k (drop p text))) (sym z) ∙ and-second (leb m (length (drop p text))) _ h)))
 
--- the call of node i
-module _ (text words : List ℕ) (a t i : ℕ) where
-  pub call-list : kind words i ≡ 0 → callAt text words a t i ≡ beginListCall t
-  unfolding callAt
-  call-list e = rw (eq-eqb _ _ e)
+-- no bytes of a text
+pub part-none : (text : List ℕ) → partOf text 0 0 ≡ []
+unfolding partOf
+part-none text = split (leb (0 + 0) (length text)) (λ e. rw (e, partOf)) (λ e. rw (e, partOf))
 
-  pub call-atom : (kind words i ≡ 0 → ⊥) → callAt text words a t i ≡ putAtomCall (partOf text (first words i) (second words i)) a
-  unfolding callAt
-  call-atom e = rw (ne-eqb _ _ e)
+-- ---- fitting, call by call
+
+module _ (s : Style) (room : ℕ) (w : Serializer) (c : Call) (cs : List Call) where
+  pub fits-on : {o : ℕ} → step s room w c .answer ≡ writer.Answer.accepted o → fits s room w (c ∷ cs) ≡ fits s room (step s room w c .serializer) cs
+  unfolding fits
+  fits-on h = rw h
+
+  pub fits-off : {n : ℕ} → step s room w c .answer ≡ writer.Answer.refused n → fits s room w (c ∷ cs) ≡ false
+  unfolding fits
+  fits-off h = rw h
+
+  -- the first of calls that fit is accepted, and the others fit after it
+  pub fits-first : fits s room w (c ∷ cs) ≡ true → (o : ℕ) × (step s room w c .answer ≡ writer.Answer.accepted o) × (fits s room (step s room w c .serializer) cs ≡ true)
+  fits-first h = of (step s room w c .answer) refl
+    where
+      of : (a : writer.Answer) → step s room w c .answer ≡ a → (o : ℕ) × (step s room w c .answer ≡ writer.Answer.accepted o) × (fits s room (step s room w c .serializer) cs ≡ true)
+      of (writer.Answer.accepted o) e = (o, e, sym (fits-on e) ∙ h)
+      of (writer.Answer.refused n) e = absurd (false≢true (sym (fits-off e) ∙ h))
+
+-- what an accepted call writes lies inside the buffer
+kept-of : (s : Style) (b : List ℕ) (w : Serializer) (c : Call) (r : Written) {o : ℕ} → Verdict s (length b) w c r → r .answer ≡ writer.Answer.accepted o
+    → length (pasted b (w .position) (r .bytes)) ≡ length b
+kept-of s b w c r (refuses n u) e = no-offset e
+kept-of s b w c r (puts p q f) e = pasted-length b (w .position) (p .layout ++ p .token) (omega (arith, length-append (p .layout) (p .token)))
+
+pub accepted-keeps : (s : Style) (b : List ℕ) (w : Serializer) (c : Call) {o : ℕ} → step s (length b) w c .answer ≡ writer.Answer.accepted o
+    → length (pasted b (w .position) (step s (length b) w c .bytes)) ≡ length b
+accepted-keeps s b w c e = kept-of s b w c (step s (length b) w c) (verdict s (length b) w c) e
+
+-- the record after calls that fit
+pub run-after : (s : Style) (w : Serializer) (cs : List Call) (b : List ℕ) → fits s (length b) w cs ≡ true → run s b w cs .last ≡ after s (length b) w cs
+unfolding run after
+run-after s w [] b h = refl
+run-after s w (c ∷ cs) b h =
+    let (o, e, more) = fits-first s (length b) w c cs h in
+    let v = step s (length b) w c .serializer in
+    let long = accepted-keeps s b w c e in
+    run-after s v cs (pasted b (w .position) (step s (length b) w c .bytes)) (rw long more) ∙ ap (λ (k : ℕ). after s k v cs) long
+
+-- it is sound
+pub after-sound : (s : Style) (room : ℕ) (w : Serializer) (cs : List Call) → isSound w ≡ true → isSound (after s room w cs) ≡ true
+unfolding after
+after-sound s room w [] h = h
+after-sound s room w (c ∷ cs) h = after-sound s room (step s room w c .serializer) cs (sound-kept s room w c h)
 
 -- ---- the number of open lists
 
@@ -58,102 +101,117 @@ lists-after (beginListCall t) n = n + 1
 lists-after endListCall n = n - 1
 lists-after (finishCall wished) n = n
 
-module _ (s : Style) (room : ℕ) (w : Serializer) where
-  -- only a sound record is accepted
-  pub unsound : (c : Call) → isSound w ≡ false → step s room w c ≡ writer.refuse 11 w
-  unfolding step
-  unsound (putAtomCall a t) h = put-unsound s room w a t h
-  unsound (beginListCall t) h = begin-unsound s room w t h
-  unsound endListCall h = end-unsound s room w h
-  unsound (finishCall wished) h = finish-unsound s room w wished h
+module _ (s : Style) (room : ℕ) (w : Serializer) (h : isSound w ≡ true) where
+  begun-none : w .phase ≡ Beginning → w .lists ≡ 0
+  begun-none e = eqb-true (w .lists) 0 (ap (λ (p : Phase). listsFit p (w .lists)) (sym e) ∙ sound w h .checked .opens)
 
-  accepted-sound : (c : Call) {o : ℕ} → step s room w c .answer ≡ writer.Answer.accepted o → isSound w ≡ true
-  accepted-sound c {o} h =
-      split (isSound w) (λ e. e)
-      (λ e.
-      let z : writer.Answer.refused 11 ≡ writer.Answer.accepted o = sym (ap (λ (r : Written). r .answer) (unsound c e)) ∙ h in
-      let y : _≡_ {A = ℕ} 0 1 = cc in absurd (omega arith))
-
-  begun-none : isSound w ≡ true → w .phase ≡ Beginning → w .lists ≡ 0
-  begun-none h e = eqb-true (w .lists) 0 (ap (λ (p : Phase). listsFit p (w .lists)) (sym e) ∙ sound w h .checked .opens)
-
-  piece-lists : (c : Call) (p : Piece) → isSound w ≡ true → Puts s w c p → (p .after .lists ≡ lists-after c (w .lists)) × (lists-after c (w .lists) ≤ deepest)
+  piece-lists : (c : Call) (p : Piece) → Puts s w c p → p .after .lists ≡ lists-after c (w .lists)
   unfolding firstAtom firstList inner innerAs close closeAs last
-  piece-lists c p h (atomAlone e f) = (sym (begun-none h e), sound w h .checked .depth)
-  piece-lists c p h (atomInside e f) = (refl, sound w h .checked .depth)
-  piece-lists c p h (listFirst e) = (omega (arith, begun-none h e), omega (arith, begun-none h e))
-  piece-lists c p h (listInside e f) = (refl, omega arith)
-  piece-lists c p h (listClosed e) = (refl, omega (arith, sound w h .checked .depth))
-  piece-lists c p h (textEnded e) = (refl, sound w h .checked .depth)
+  piece-lists c p (atomAlone e f) = sym (begun-none e)
+  piece-lists c p (atomInside e f) = refl
+  piece-lists c p (listFirst e) = omega (arith, begun-none e)
+  piece-lists c p (listInside e) = refl
+  piece-lists c p (listClosed e) = refl
+  piece-lists c p (textEnded e) = refl
 
-  lists-of : (c : Call) (r : Written) {o : ℕ} → Verdict s room w c r → isSound w ≡ true → r .answer ≡ writer.Answer.accepted o
-      → (r .serializer .lists ≡ lists-after c (w .lists)) × (lists-after c (w .lists) ≤ deepest)
-  lists-of c r {o} (refuses n u) h e = let z : _≡_ {A = ℕ} 0 1 = cc in absurd (omega arith)
-  lists-of c r {o} (puts p q f) h e = piece-lists c p h q
+  lists-of : (c : Call) (r : Written) {o : ℕ} → Verdict s room w c r → r .answer ≡ writer.Answer.accepted o → r .serializer .lists ≡ lists-after c (w .lists)
+  lists-of c r (refuses n u) e = no-offset e
+  lists-of c r (puts p q f) e = piece-lists c p q
 
-  pub accepted-lists : (c : Call) {o : ℕ} → step s room w c .answer ≡ writer.Answer.accepted o
-      → (step s room w c .serializer .lists ≡ lists-after c (w .lists)) × (lists-after c (w .lists) ≤ deepest)
-  accepted-lists c h = lists-of c (step s room w c) (verdict s room w c) (accepted-sound c h) h
+  pub accepted-lists : (c : Call) {o : ℕ} → step s room w c .answer ≡ writer.Answer.accepted o → step s room w c .serializer .lists ≡ lists-after c (w .lists)
+  accepted-lists c e = lists-of c (step s room w c) (verdict s room w c) e
 
-  -- ---- fitting, call by call
+  closed-some : (r : Written) {o : ℕ} → Verdict s room w endListCall r → r .answer ≡ writer.Answer.accepted o → 0 < w .lists
+  closed-some r (refuses n u) e = no-offset e
+  closed-some r (puts p (listClosed q) f) e = writing-lists w h q
 
-  pub fits-on : (c : Call) (cs : List Call) {o : ℕ} → step s room w c .answer ≡ writer.Answer.accepted o → fits s room w (c ∷ cs) ≡ fits s room (step s room w c .serializer) cs
-  unfolding fits
-  fits-on c cs h = rw h
+  -- only an open list is closed
+  pub closed-list : {o : ℕ} → step s room w endListCall .answer ≡ writer.Answer.accepted o → 0 < w .lists
+  closed-list e = closed-some (step s room w endListCall) (verdict s room w endListCall) e
 
-  pub fits-off : (c : Call) (cs : List Call) {n : ℕ} → step s room w c .answer ≡ writer.Answer.refused n → fits s room w (c ∷ cs) ≡ false
-  unfolding fits
-  fits-off c cs h = rw h
+-- ---- the bytes of a turn, by the records before and after it
 
--- what an accepted call writes lies inside the buffer
-kept-of : (s : Style) (b : List ℕ) (w : Serializer) (c : Call) (r : Written) {o : ℕ} → Verdict s (length b) w c r → r .answer ≡ writer.Answer.accepted o
-    → length (pasted b (w .position) (r .bytes)) ≡ length b
-kept-of s b w c r {o} (refuses n u) e = let z : _≡_ {A = ℕ} 0 1 = cc in absurd (omega arith)
-kept-of s b w c r {o} (puts p q f) e = pasted-length b (w .position) (p .layout ++ p .token) (omega (arith, length-append (p .layout) (p .token)))
+module _ (s : Style) (w : Serializer) (closes : Bool) where
+  layout-none : {breaks at : ℕ} → breaks ≡ w .breaks → at ≡ w .position → [] ≡ turnLayout s w breaks at closes
+  layout-none b a = rw (b, a, le-ltb (w .breaks) (w .breaks) (omega arith), le-ltb (w .position) (w .position) (omega arith))
 
-accepted-keeps : (s : Style) (b : List ℕ) (w : Serializer) (c : Call) {o : ℕ} → step s (length b) w c .answer ≡ writer.Answer.accepted o
-    → length (pasted b (w .position) (step s (length b) w c .bytes)) ≡ length b
-accepted-keeps s b w c e = kept-of s b w c (step s (length b) w c) (verdict s (length b) w c) e
+  layout-space : {breaks at : ℕ} → breaks ≡ w .breaks → at ≡ w .position + 1 → 32 ∷ [] ≡ turnLayout s w breaks at closes
+  layout-space b a = rw (b, a, le-ltb (w .breaks) (w .breaks) (omega arith), lt-ltb (w .position) (w .position + 1) (omega arith))
 
--- ---- the record after the calls, which depends on the buffer's length alone
+  layout-line : {breaks : ℕ} (at : ℕ) → breaks ≡ w .breaks + 1 → newLineOf s (cond closes (w .lists - 1) (w .lists)) ≡ turnLayout s w breaks at closes
+  layout-line at b = rw (b, lt-ltb (w .breaks) (w .breaks + 1) (omega arith))
 
-pasted-long : (b b′ : List ℕ) → length b ≡ length b′ → (at : ℕ) (x : List ℕ) → length (pasted b at x) ≡ length (pasted b′ at x)
-unfolding pasted
-pasted-long b b′ h at x = simp (length-append, length-take, length-drop, h)
+-- a piece's layout and token are a turn's
+record Shaped (s : Style) (w : Serializer) (closes : Bool) (a : List ℕ) (isList : Bool) (p : Piece) : Type 0 where
+  layout : p .layout ≡ turnLayout s w (p .after .breaks) (w .position + length (p .layout)) closes
+  token : p .token ≡ turnToken closes a isList
 
-pub run-last : (s : Style) (w : Serializer) (cs : List Call) (b b′ : List ℕ) → length b ≡ length b′ → run s b w cs .last ≡ run s b′ w cs .last
-unfolding run
-run-last s w [] b b′ h = refl
-run-last s w (c ∷ cs) b b′ h =
-    let x = step s (length b′) w c .bytes in
-    ap (λ (k : ℕ). run s (pasted b (w .position) (step s k w c .bytes)) (step s k w c .serializer) cs .last) h
-    ∙ run-last s (step s (length b′) w c .serializer) cs (pasted b (w .position) x) (pasted b′ (w .position) x) (pasted-long b b′ h (w .position) x)
+module _ (s : Style) (w : Serializer) where
+  inner-shaped : (a token : List ℕ) (isList : Bool) (g : Gap) → token ≡ turnToken false a isList → Shaped s w false a isList (innerAs s w token isList g)
+  unfolding innerAs laid
+  inner-shaped a token isList newLine e = record { layout = layout-line s w false (w .position + length (newLineOf s (w .lists))) refl; token = e }
+  inner-shaped a token isList nothing e = record { layout = layout-none s w false refl (add-zero (w .position)); token = e }
+  inner-shaped a token isList space e = record { layout = layout-space s w false refl refl; token = e }
+
+  close-shaped : (a : List ℕ) (isList b : Bool) → Shaped s w true a isList (closeAs s w b)
+  unfolding closeAs
+  close-shaped a isList true = record { layout = layout-line s w true (w .position + length (newLineOf s (w .lists - 1))) refl; token = refl }
+  close-shaped a isList false = record { layout = layout-none s w true refl (add-zero (w .position)); token = refl }
+
+  turn-shaped : (closes : Bool) (a : List ℕ) (isList : Bool) (t : ℕ) (p : Piece) → Puts s w (turnCall closes a isList t) p → Shaped s w closes a isList p
+  unfolding turnCall itemCall inner close firstAtom firstList
+  turn-shaped true a isList t p (listClosed e) = close-shaped a isList (eqb (w .broken) (w .lists))
+  turn-shaped false a true t p (listFirst e) = record { layout = layout-none s w false refl (add-zero (w .position)); token = refl }
+  turn-shaped false a true t p (listInside e) = inner-shaped a (40 ∷ []) true (gapAt w t) refl
+  turn-shaped false a false t p (atomAlone e f) = record { layout = layout-none s w false refl (add-zero (w .position)); token = refl }
+  turn-shaped false a false t p (atomInside e f) = inner-shaped a a false (gapAt w t) refl
+
+-- what an accepted turn writes
+pub record Shape (s : Style) (room : ℕ) (w : Serializer) (closes : Bool) (a : List ℕ) (isList : Bool) (r : Written) (at : ℕ) : Type 0 where
+  pub bytes : r .bytes ≡ turnLayout s w (r .serializer .breaks) at closes ++ turnToken closes a isList
+  pub offset : at ≡ w .position + length (turnLayout s w (r .serializer .breaks) at closes)
+  pub within : w .position + length (turnLayout s w (r .serializer .breaks) at closes) + length (turnToken closes a isList) ≤ room
+
+shape-of : (s : Style) (room : ℕ) (w : Serializer) (closes : Bool) (a : List ℕ) (isList : Bool) (t : ℕ) (r : Written) {at : ℕ} → Verdict s room w (turnCall closes a isList t) r
+    → r .answer ≡ writer.Answer.accepted at → Shape s room w closes a isList r at
+shape-of s room w closes a isList t r (refuses n u) e = no-offset e
+shape-of s room w closes a isList t r {at} (puts p q f) e =
+    let z : w .position + length (p .layout) ≡ at = cc in
+    let k = turn-shaped s w closes a isList t p q in
+    let l : p .layout ≡ turnLayout s w (p .after .breaks) at closes = k .layout ∙ ap (λ (n : ℕ). turnLayout s w (p .after .breaks) n closes) z in
+    record {
+      bytes = rw (← l, ← (k .token)) refl;
+      offset = sym z ∙ ap (λ (x : List ℕ). w .position + length x) l;
+      within = let x = ap length l in let y = ap length (k .token) in omega arith;
+    }
+
+pub turn-shape : (s : Style) (room : ℕ) (w : Serializer) (closes : Bool) (a : List ℕ) (isList : Bool) (t : ℕ) {at : ℕ}
+    → step s room w (turnCall closes a isList t) .answer ≡ writer.Answer.accepted at → Shape s room w closes a isList (step s room w (turnCall closes a isList t)) at
+turn-shape s room w closes a isList t e = shape-of s room w closes a isList t (step s room w (turnCall closes a isList t)) (verdict s room w (turnCall closes a isList t)) e
 
 -- ---- what is left of the calls
 
 -- the calls cs, from the record w and the buffer b, do as the whole, cs₀ from w₀ and b₀, does
-pub record Same (s : Style) (draws : Bool) (b₀ : List ℕ) (w₀ : Serializer) (cs₀ : List Call) (b : List ℕ) (w : Serializer) (cs : List Call) : Type 0 where
-  pub room : length b ≡ length b₀
-  pub fit : fits s (length b₀) w cs ≡ fits s (length b₀) w₀ cs₀
-  pub last : run s b w cs .last ≡ run s b₀ w₀ cs₀ .last
-  pub buffer : draws ≡ true → run s b w cs .buffer ≡ run s b₀ w₀ cs₀ .buffer
-  pub kept : draws ≡ false → b ≡ b₀
+pub record Same (s : Style) (writes : Bool) (room : ℕ) (b₀ : List ℕ) (w₀ : Serializer) (cs₀ : List Call) (b : List ℕ) (w : Serializer) (cs : List Call) : Type 0 where
+  pub fit : fits s room w cs ≡ fits s room w₀ cs₀
+  pub last : after s room w cs ≡ after s room w₀ cs₀
+  pub lent : writes ≡ true → room ≡ length b
+  pub buffer : writes ≡ true → run s b w cs .buffer ≡ run s b₀ w₀ cs₀ .buffer
+  pub kept : writes ≡ false → b ≡ b₀
 
-pub same-start : (s : Style) (draws : Bool) (b : List ℕ) (w : Serializer) (cs : List Call) → Same s draws b w cs b w cs
-same-start s draws b w cs = record { room = refl; fit = refl; last = refl; buffer = λ e. refl; kept = λ e. refl }
+pub same-start : (s : Style) (writes : Bool) (room : ℕ) (b : List ℕ) (w : Serializer) (cs : List Call) → (writes ≡ true → room ≡ length b) → Same s writes room b w cs b w cs
+same-start s writes room b w cs lent = record { fit = refl; last = refl; lent = lent; buffer = λ e. refl; kept = λ e. refl }
 
-module _ {s : Style} {draws : Bool} {b₀ : List ℕ} {w₀ : Serializer} {cs₀ : List Call} {b : List ℕ} {w : Serializer} {c : Call} {cs : List Call}
-    (h : Same s draws b₀ w₀ cs₀ b w (c ∷ cs)) {v : Serializer} {now : List ℕ}
-    (does : v ≡ step s (length b) w c .serializer) (writes : now ≡ cond draws (pasted b (w .position) (step s (length b) w c .bytes)) b) where
+module _ {s : Style} {writes : Bool} {room : ℕ} {b₀ : List ℕ} {w₀ : Serializer} {cs₀ : List Call} {b : List ℕ} {w : Serializer} {c : Call} {cs : List Call}
+    (h : Same s writes room b₀ w₀ cs₀ b w (c ∷ cs)) {v : Serializer} {now : List ℕ} {o : ℕ}
+    (does : v ≡ step s room w c .serializer) (wrote : now ≡ writtenIf writes b (w .position) (step s room w c .bytes)) (e : step s room w c .answer ≡ writer.Answer.accepted o) where
   -- one call more
-  pub same-on : {o : ℕ} → step s (length b) w c .answer ≡ writer.Answer.accepted o → length now ≡ length b → Same s draws b₀ w₀ cs₀ now v cs
-  unfolding run
-  same-on {o} e keeps = record {
-    room = keeps ∙ h .room;
-    fit =
-        ap (λ (x : Serializer). fits s (length b₀) x cs) (does ∙ ap (λ (k : ℕ). step s k w c .serializer) (h .room))
-        ∙ sym (fits-on s (length b₀) w c cs (rw (h .room) at e)) ∙ h .fit;
-    last = rw does (run-last s (step s (length b) w c .serializer) cs now _ (keeps ∙ sym (accepted-keeps s b w c e)) ∙ h .last);
-    buffer = λ t. rw (does, writes, t) (h .buffer t);
-    kept = λ t. (rw t at writes) ∙ h .kept t;
+  pub same-on : Same s writes room b₀ w₀ cs₀ now v cs
+  unfolding run after
+  same-on = record {
+    fit = ap (λ (x : Serializer). fits s room x cs) does ∙ sym (fits-on s room w c cs e) ∙ h .fit;
+    last = ap (λ (x : Serializer). after s room x cs) does ∙ h .last;
+    lent = λ t. h .lent t ∙ sym (rw (wrote, t, h .lent t) (accepted-keeps s b w c (rw (h .lent t) at e)));
+    buffer = λ t. rw (does, wrote, t, h .lent t) (h .buffer t);
+    kept = λ t. (rw t at wrote) ∙ h .kept t;
   }

@@ -2,7 +2,7 @@
 -- writer's own calls write, made one after the other from a fresh record.
 -- Assumes nothing.
 use Prim.Native.Nat.{ℕ}
-use mathlib.Core.Path.{_≡_, refl}
+use mathlib.Core.Path.{_≡_, refl, ap}
 use mathlib.Core.Bool.{true}
 use mathlib.Core.Option.{some}
 use mathlib.Core.List.{List, [], _∷_, _++_}
@@ -12,10 +12,10 @@ use Rattle.sise_serializer.specs.Calls.{finishCall, writing}
 use Rattle.sise_tree.specs.Tree.{Node}
 use Rattle.sise_tree.specs.Decision.{decide}
 use Rattle.sise_tree.specs.Answers.{answered}
-use Rattle.sise_tree_writer.specs.SerializeTree.{treeCalls, writeTree}
+use Rattle.sise_tree_writer.specs.SerializeTree.{treeCalls, Writes, writeTree}
 use Rattle.sise_tree_writer.specs.Writing.{textCalls}
 use Rattle.sise_tree_writer.specs.House.{houseStyle, houseAt}
-use Rattle.sise_tree_writer.proofs.WalkDoes.{tree-accepted}
+use Rattle.sise_tree_writer.proofs.Measured.{tree-accepted}
 
 -- the house call as document 01 has it, "LF, two spaces, threshold 0, final break": the tree's calls at 0, and a finish with a break
 pub at-0 : (buffer text words : List ℕ)
@@ -28,5 +28,5 @@ pub by-calls : (t : ℕ) (buffer text words : List ℕ) {o : ℕ} → houseAt t 
     → (n : Node) × (decide (length text) words ≡ some n) × (houseAt t buffer text words .buffer ≡ writing houseStyle buffer (treeCalls text t n ++ finishCall true ∷ []) .buffer)
 unfolding houseAt textCalls
 by-calls t buffer text words h =
-    let (n, d, atoms, fit, same) = tree-accepted houseStyle buffer freshSerializer text (textCalls text t true) words h in
-    (n, d, same)
+    let k = tree-accepted houseStyle buffer freshSerializer text words (textCalls text t true) h in
+    (k .node, k .decided, ap (λ (d : Writes). d .buffer) (k .same))

@@ -1,4 +1,4 @@
--- After 11, 17, 19 and 21 no refusal but 22 is left: the first of a tree's calls that is refused, if one is, is refused with 22. For a tree's calls begin
+-- After 11, 17 and 19 no refusal but 22 is left: the first of a tree's calls that is refused, if one is, is refused with 22. For a tree's calls begin
 -- and end their lists in pairs, so each is made in a phase that takes it.
 -- Assumes nothing.
 use Prim.Native.Nat.{ℕ, _+_, _-_, _≤_, _<_, min}
@@ -7,30 +7,29 @@ use mathlib.Core.Path.{_≡_, refl, sym, ap, _∙_}
 use mathlib.Core.Bool.{Bool, true, false, cond, false≢true}
 use mathlib.Core.Option.{Option, none, some}
 use mathlib.Core.List.{List, [], _∷_, _++_, append-assoc, append-nil}
-use lib.Dec.{leb, ltb}
+use lib.Dec.{leb}
 use lib.ListN.{length}
-use borrow.Author.Tests.{leb-true, leb-false, ltb-false, eqb-true, ne-eqb}
+use borrow.Author.Tests.{leb-true, leb-false, eqb-true, ne-eqb}
 use Rattle.sise_util.specs.Atom.{isAtom}
 use Rattle.sise_util.proofs.Ranges.{split, and-first, and-second}
 use Rattle.sise_parser.specs.Reader.{partOf}
 use Rattle.sise_serializer.specs.Serializer as writer
-use Rattle.sise_serializer.specs.Serializer.{Style, Piece, Written, limit, deepest, listsFit, isSound, freshSerializer, firstAtom, firstList, inner, innerAs, phaseAfter, close, closeAs}
+use Rattle.sise_serializer.specs.Serializer.{Style, Piece, Written, limit, listsFit, isSound, freshSerializer, firstAtom, firstList, inner, innerAs, phaseAfter, close, closeAs}
 use Rattle.sise_serializer.specs.declared.serializer.Phase.{Phase}
 use Rattle.sise_serializer.specs.declared.serializer.Phase.the-variants.{Beginning, Writing, Finished, Done}
 use Rattle.sise_serializer.specs.declared.serializer.Serializer.{Serializer}
 use Rattle.sise_serializer.proofs.Sound.{sound, writing-lists}
 use Rattle.sise_serializer.specs.Calls.{largest, Call, putAtomCall, beginListCall, endListCall, finishCall, step}
 use Rattle.sise_serializer.proofs.Verdicts.{endOf, put, Puts, atomAlone, atomInside, listFirst, listInside, listClosed, textEnded}
-use Rattle.sise_tree.specs.Tree.{Node, atom, list, Nodes, empty, _then_, depth, depths}
+use Rattle.sise_tree.specs.Tree.{Node, atom, list, Nodes, empty, _then_}
 use Rattle.sise_tree.specs.Decision.{decide}
-use Rattle.sise_tree.specs.ParseTree.{longest}
 use Rattle.sise_tree.specs.Answers.{refusedWith}
-use Rattle.sise_tree_writer.specs.SerializeTree.{nodeCalls, rowCalls, treeCalls, atomsHold, atomsHoldAll, fits, refuse, written, isOver, writeNode, writeTree, serializeTree}
+use Rattle.sise_tree_writer.specs.SerializeTree.{nodeCalls, rowCalls, treeCalls, atomsHold, atomsHoldAll, fits, Writes, refuse, written, isOver, writeTree, serializeTree}
 use Rattle.sise_tree_writer.specs.Writing.{textCalls}
 use Rattle.sise_tree_writer.proofs.CallLaws.{checked-atom, fits-off}
-use Rattle.sise_tree_writer.proofs.SoundSteps.{puts-sound}
-use Rattle.sise_tree_writer.proofs.Placing.{placed, not-placed, puts-place, put-fits}
-use Rattle.sise_tree_writer.proofs.WalkDoes.{no-answer}
+use Rattle.sise_tree_writer.proofs.Placing.{puts-sound, placed, not-placed, puts-place, put-fits}
+use Rattle.sise_tree_writer.proofs.Measured.{no-answer, Tested, fails, passes, tested}
+use Rattle.sise_tree_writer.proofs.Finishing.{tree-begun}
 use Rattle.sise_tree_writer.proofs.TreeRooms.{same-number, on-answer}
 
 -- a refusal's number, or what follows an accepted call
@@ -86,10 +85,10 @@ module _ (s : Style) {d : ℕ} {w : Serializer} (at : At Writing d w) where
     lists = at .lists;
   }
 
-  after-list : (t : ℕ) → d < deepest → endOf w (inner s w (40 ∷ []) true t) ≤ limit → At Writing (d + 1) (inner s w (40 ∷ []) true t .after)
+  after-list : (t : ℕ) → endOf w (inner s w (40 ∷ []) true t) ≤ limit → At Writing (d + 1) (inner s w (40 ∷ []) true t .after)
   unfolding inner innerAs
-  after-list t r e = record {
-    sound = puts-sound {s = s} (at .sound) (listInside {t = t} (at .phase) (omega (arith, at .lists))) e;
+  after-list t e = record {
+    sound = puts-sound {s = s} (at .sound) (listInside {t = t} (at .phase)) e;
     phase = refl;
     lists = ap (λ (n : ℕ). n + 1) (at .lists);
   }
@@ -144,8 +143,8 @@ module _ (s : Style) (room : ℕ) where
     an-atom : {d : ℕ} (a : List ℕ) (t : ℕ) → isAtom a ≡ true → Takes Writing d cs → Takes Writing d (putAtomCall a t ∷ cs)
     an-atom a t g k = record { only = λ w at. only-on w cs (at .sound) (atomInside (at .phase) g) (λ e. k .only _ (after-atom s at a t g e)) }
 
-    a-list : {d : ℕ} (t : ℕ) → d < deepest → Takes Writing (d + 1) cs → Takes Writing d (beginListCall t ∷ cs)
-    a-list t r k = record { only = λ w at. only-on w cs (at .sound) (listInside (at .phase) (omega (arith, at .lists))) (λ e. k .only _ (after-list s at t r e)) }
+    a-list : {d : ℕ} (t : ℕ) → Takes Writing (d + 1) cs → Takes Writing d (beginListCall t ∷ cs)
+    a-list t k = record { only = λ w at. only-on w cs (at .sound) (listInside (at .phase)) (λ e. k .only _ (after-list s at t e)) }
 
     an-end : (d : ℕ) → Takes (phaseAfter (d - 1)) (d - 1) cs → Takes Writing d (endListCall ∷ cs)
     an-end d k = record { only = λ w at. only-on w cs (at .sound) (listClosed (at .phase)) (λ e. k .only _ (after-end s at e)) }
@@ -169,56 +168,55 @@ module _ (s : Style) (room : ℕ) where
 
   module _ (text : List ℕ) (t : ℕ) where
     mutual
-      unfolding nodeCalls rowCalls atomsHold atomsHoldAll depth depths
+      unfolding nodeCalls rowCalls atomsHold atomsHoldAll
 
       -- inside a list
-      node-takes : (n : Node) (a d : ℕ) (rest : List Call) → atomsHold text n ≡ true → 0 < d → d + depth n ≤ deepest → Takes Writing d rest → Takes Writing d (nodeCalls text a t n ++ rest)
-      node-takes (atom p m) a d rest h o r k = an-atom (partOf text p m) a (checked-atom text p m h) k
-      node-takes (list c) a d rest h o r k =
-          a-list t (omega arith)
-          (rw (append-assoc (rowCalls text largest t c) (endListCall ∷ []) rest) (row-takes c largest (d + 1) (endListCall ∷ rest) h (omega arith) (omega arith) (inner-end o k)))
+      node-takes : (n : Node) (a d : ℕ) (rest : List Call) → atomsHold text n ≡ true → 0 < d → Takes Writing d rest → Takes Writing d (nodeCalls text a t n ++ rest)
+      node-takes (atom p m) a d rest h o k = an-atom (partOf text p m) a (checked-atom text p m h) k
+      node-takes (list c) a d rest h o k =
+          a-list t
+          (rw (append-assoc (rowCalls text largest t c) (endListCall ∷ []) rest) (row-takes c largest (d + 1) (endListCall ∷ rest) h (omega arith) (inner-end o k)))
 
-      row-takes : (c : Nodes) (a d : ℕ) (rest : List Call) → atomsHoldAll text c ≡ true → 0 < d → d + depths c ≤ deepest → Takes Writing d rest → Takes Writing d (rowCalls text a t c ++ rest)
-      row-takes empty a d rest h o r k = k
-      row-takes (n then c) a d rest h o r k =
+      row-takes : (c : Nodes) (a d : ℕ) (rest : List Call) → atomsHoldAll text c ≡ true → 0 < d → Takes Writing d rest → Takes Writing d (rowCalls text a t c ++ rest)
+      row-takes empty a d rest h o k = k
+      row-takes (n then c) a d rest h o k =
           rw (append-assoc (nodeCalls text a t n) (rowCalls text t t c) rest)
-          (node-takes n a d (rowCalls text t t c ++ rest) (and-first (atomsHold text n) (atomsHoldAll text c) h) o (omega arith)
-          (row-takes c t d rest (and-second (atomsHold text n) (atomsHoldAll text c) h) o (omega arith) k))
+          (node-takes n a d (rowCalls text t t c ++ rest) (and-first (atomsHold text n) (atomsHoldAll text c) h) o
+          (row-takes c t d rest (and-second (atomsHold text n) (atomsHoldAll text c) h) o k))
 
     -- as the whole text
-    whole-takes : (n : Node) (rest : List Call) → atomsHold text n ≡ true → depth n ≤ deepest → Takes Finished 0 rest → Takes Beginning 0 (treeCalls text t n ++ rest)
-    unfolding nodeCalls atomsHold depth
-    whole-takes (atom p m) rest h r k = first-atom (partOf text p m) t (checked-atom text p m h) k
-    whole-takes (list c) rest h r k =
+    whole-takes : (n : Node) (rest : List Call) → atomsHold text n ≡ true → Takes Finished 0 rest → Takes Beginning 0 (treeCalls text t n ++ rest)
+    unfolding nodeCalls atomsHold
+    whole-takes (atom p m) rest h k = first-atom (partOf text p m) t (checked-atom text p m h) k
+    whole-takes (list c) rest h k =
         first-list t
-        (rw (append-assoc (rowCalls text largest t c) (endListCall ∷ []) rest) (row-takes c largest 1 (endListCall ∷ rest) h (omega arith) (omega arith) (outer-end k)))
+        (rw (append-assoc (rowCalls text largest t c) (endListCall ∷ []) rest) (row-takes c largest 1 (endListCall ∷ rest) h (omega arith) (outer-end k)))
 
 -- ---- the laws
 
 -- of a tree's calls, from a sound record that takes one
 module _ (s : Style) (room : ℕ) (w : Serializer) (text : List ℕ) (t : ℕ) (n : Node) where
-  tree-in : (f : Phase) → w .phase ≡ f → isSound w ≡ true → isOver f ≡ false → atomsHold text n ≡ true → w .lists + depth n ≤ deepest → Only22 s room w (treeCalls text t n ++ [])
-  tree-in Beginning e h o g r =
+  tree-in : (f : Phase) → w .phase ≡ f → isSound w ≡ true → isOver f ≡ false → atomsHold text n ≡ true → Only22 s room w (treeCalls text t n ++ [])
+  tree-in Beginning e h o g =
       let z : w .lists ≡ 0 = eqb-true (w .lists) 0 (ap (λ (p : Phase). listsFit p (w .lists)) (sym e) ∙ sound w h .checked .opens) in
-      whole-takes s room text t n [] g (omega arith) (no-calls s room) .only w (record { sound = h; phase = e; lists = z })
-  tree-in Writing e h o g r = node-takes s room text t n t (w .lists) [] g (writing-lists w h e) r (no-calls s room) .only w (record { sound = h; phase = e; lists = refl })
-  tree-in Finished e h o g r = no (sym o)
-  tree-in Done e h o g r = no (sym o)
+      whole-takes s room text t n [] g (no-calls s room) .only w (record { sound = h; phase = e; lists = z })
+  tree-in Writing e h o g = node-takes s room text t n t (w .lists) [] g (writing-lists w h e) (no-calls s room) .only w (record { sound = h; phase = e; lists = refl })
+  tree-in Finished e h o g = no (sym o)
+  tree-in Done e h o g = no (sym o)
 
-  pub tree-refusal : isSound w ≡ true → isOver (w .phase) ≡ false → atomsHold text n ≡ true → w .lists + depth n ≤ deepest
+  pub tree-refusal : isSound w ≡ true → isOver (w .phase) ≡ false → atomsHold text n ≡ true
       → firstRefusal s room w (treeCalls text t n) ≡ cond (fits s room w (treeCalls text t n)) none (some 22)
-  tree-refusal h o g r = rw (append-nil (treeCalls text t n)) at (tree-in (w .phase) refl h o g r)
+  tree-refusal h o g = rw (append-nil (treeCalls text t n)) at (tree-in (w .phase) refl h o g)
 
 fresh-at : At Beginning 0 freshSerializer
 unfolding freshSerializer isSound
 fresh-at = record { sound = refl; phase = refl; lists = refl }
 
--- of a tree's calls, and of a finish with a line break if wished, from a fresh record
-pub text-refusal : (s : Style) (room : ℕ) (text : List ℕ) (t : ℕ) (wished : Bool) (n : Node) → atomsHold text n ≡ true → depth n ≤ deepest
+-- of a tree's calls, and of a finish, from a fresh record
+pub text-refusal : (s : Style) (room : ℕ) (text : List ℕ) (t : ℕ) (wished : Bool) (n : Node) → atomsHold text n ≡ true
     → firstRefusal s room freshSerializer (textCalls text t wished n) ≡ cond (fits s room freshSerializer (textCalls text t wished n)) none (some 22)
 unfolding textCalls
-text-refusal s room text t true n g r = whole-takes s room text t n (finishCall true ∷ []) g r (a-finish s room true) .only freshSerializer fresh-at
-text-refusal s room text t false n g r = rw (append-nil (treeCalls text t n)) at (whole-takes s room text t n [] g r (no-calls s room) .only freshSerializer fresh-at)
+text-refusal s room text t wished n g = whole-takes s room text t n (finishCall wished ∷ []) g (a-finish s room wished) .only freshSerializer fresh-at
 
 -- ---- what it says of the tree calls
 
@@ -234,7 +232,7 @@ refused-first s b w cs only e = let (f, z) = off-number (fits s (length b) w cs)
 
 -- calls that are some, and of which only 22 is to be feared once the tests are passed
 module _ (s : Style) (b : List ℕ) (w : Serializer) (text : List ℕ) (calls : Node → List Call) (begun : (n : Node) → (c : Call) × (cs : List Call) × (calls n ≡ c ∷ cs))
-    (only : (n : Node) → isSound w ≡ true → isOver (w .phase) ≡ false → atomsHold text n ≡ true → w .lists + depth n ≤ deepest → Only22 s (length b) w (calls n)) where
+    (only : (n : Node) → isSound w ≡ true → isOver (w .phase) ≡ false → atomsHold text n ≡ true → Only22 s (length b) w (calls n)) where
   made-22 : (n : Node) → Only22 s (length b) w (calls n) → written s b w (calls n) .answer ≡ refusedWith 22 → firstRefusal s (length b) w (calls n) ≡ some 22
   made-22 n o h =
       let (c, cs, e) = begun n in
@@ -242,36 +240,17 @@ module _ (s : Style) (b : List ℕ) (w : Serializer) (text : List ℕ) (calls : 
       (λ f. let (p, a) = on-answer s b w c cs (rw e at f) in no-answer (sym h ∙ ap (λ (l : List Call). written s b w l .answer) e ∙ a))
       (λ f. o ∙ ap (λ (x : Bool). cond x none (some 22)) f)
 
-  node-22 : (d : Option Node) → isSound w ≡ true → writeNode s b w text calls d .answer ≡ refusedWith 22 → (n : Node) × (d ≡ some n) × (firstRefusal s (length b) w (calls n) ≡ some 22)
-  unfolding writeNode
-  node-22 none h e = let z = same-number e in absurd (omega arith)
-  node-22 (some n) h e =
-      split (atomsHold text n)
-      (λ a.
-      split (isOver (w .phase)) (λ v. let z = same-number (rw (a, v) at e) in absurd (omega arith))
-      (λ v.
-      split (ltb deepest (w .lists + depth n)) (λ t. let z = same-number (rw (a, v, t) at e) in absurd (omega arith))
-      (λ t. (n, refl, made-22 n (only n h v a (ltb-false deepest (w .lists + depth n) t)) (rw (a, v, t) at e)))))
-      (λ a. let z = same-number (rw a at e) in absurd (omega arith))
-
   answer-22 : (words : List ℕ) → writeTree s b w text words calls .answer ≡ refusedWith 22
       → (n : Node) × (decide (length text) words ≡ some n) × (firstRefusal s (length b) w (calls n) ≡ some 22)
-  unfolding writeTree
-  answer-22 words e =
-      split (ltb longest (length text)) (λ l. let z = same-number (rw l at e) in absurd (omega arith))
-      (λ l.
-      split (isSound w) (λ h. node-22 (decide (length text) words) h (rw (l, h) at e)) (λ h. let z = same-number (rw (l, h) at e) in absurd (omega arith)))
-
--- a tree has a first call
-tree-begun : (text : List ℕ) (t : ℕ) (n : Node) → (c : Call) × (cs : List Call) × (treeCalls text t n ≡ c ∷ cs)
-unfolding nodeCalls
-tree-begun text t (atom p m) = (putAtomCall (partOf text p m) t, [], refl)
-tree-begun text t (list c) = (beginListCall t, rowCalls text largest t c ++ endListCall ∷ [], refl)
+  answer-22 words e = of (tested s w text words)
+    where
+      of : Tested s w text words → (n : Node) × (decide (length text) words ≡ some n) × (firstRefusal s (length b) w (calls n) ≡ some 22)
+      of (fails k lt q) = let z = same-number (sym (ap (λ (x : Writes). x .answer) (q b calls)) ∙ e) in absurd (omega arith)
+      of (passes n d a h v q) = (n, d, made-22 n (only n h v a) (sym (ap (λ (x : Writes). x .answer) (q b calls)) ∙ e))
 
 text-begun : (text : List ℕ) (t : ℕ) (wished : Bool) (n : Node) → (c : Call) × (cs : List Call) × (textCalls text t wished n ≡ c ∷ cs)
 unfolding textCalls
-text-begun text t true n = let (c, cs, e) = tree-begun text t n in (c, cs ++ finishCall true ∷ [], ap (λ (l : List Call). l ++ finishCall true ∷ []) e)
-text-begun text t false n = tree-begun text t n
+text-begun text t wished n = let (c, cs, e) = tree-begun text t n in (c, cs ++ finishCall wished ∷ [], ap (λ (l : List Call). l ++ finishCall wished ∷ []) e)
 
 -- serialize_tree answers 22 only if the first of the tree's calls that is refused is refused with 22
 pub tree-22 : (s : Style) (b : List ℕ) (w : Serializer) (text words : List ℕ) (t : ℕ) → serializeTree s b w text words t .answer ≡ refusedWith 22
@@ -282,6 +261,5 @@ tree-22 s b w text words t = answer-22 s b w text (treeCalls text t) (tree-begun
 -- and so does write_text
 pub text-22 : (s : Style) (b text words : List ℕ) (t : ℕ) (wished : Bool) → writeTree s b freshSerializer text words (textCalls text t wished) .answer ≡ refusedWith 22
     → (n : Node) × (decide (length text) words ≡ some n) × (firstRefusal s (length b) freshSerializer (textCalls text t wished n) ≡ some 22)
-unfolding freshSerializer
 text-22 s b text words t wished =
-    answer-22 s b freshSerializer text (textCalls text t wished) (text-begun text t wished) (λ n h o g r. text-refusal s (length b) text t wished n g (omega arith)) words
+    answer-22 s b freshSerializer text (textCalls text t wished) (text-begun text t wished) (λ n h o g. text-refusal s (length b) text t wished n g) words

@@ -8,13 +8,14 @@ use mathlib.Core.List.{List, _∷_}
 use borrow.Author.Tests.{le-leb, lt-leb}
 use Rattle.sise_util.proofs.Ranges.{split, and-first}
 use Rattle.sise_serializer.specs.Serializer as writer
-use Rattle.sise_serializer.specs.Serializer.{Style, Piece, Written, limit, isSound, place, firstAtom, firstList, inner, innerAs, close, closeAs, last, putIn, beginIn, endIn, finishIn}
+use Rattle.sise_serializer.specs.Serializer.{Style, Piece, Written, limit, isSound, place, firstAtom, firstList, inner, innerAs, close, closeAs, last, putIn, putAtom, beginIn, beginList, endIn, endList, finishIn, finishWriting}
+use Rattle.sise_serializer.specs.declared.serializer.Phase.{Phase}
 use Rattle.sise_serializer.specs.declared.serializer.Serializer.{Serializer}
-use Rattle.sise_serializer.proofs.Does.{put-sound, put-in, begin-sound, begin-inner, end-sound, finish-sound}
+use Rattle.sise_serializer.proofs.Does.{unsound-call}
+use Rattle.sise_serializer.proofs.Kept.{sound-kept}
 use Rattle.sise_serializer.specs.Calls.{isAccepted, Call, step}
 use Rattle.sise_serializer.proofs.Verdicts.{endOf, put, Puts, atomAlone, atomInside, listFirst, listInside, listClosed, textEnded, Verdict, refuses, puts, verdict}
 use Rattle.sise_tree_writer.specs.SerializeTree.{fits}
-use Rattle.sise_tree_writer.proofs.CallLaws.{unsound}
 
 -- a piece with room, and one without
 module _ (room : ℕ) (w : Serializer) (p : Piece) where
@@ -32,20 +33,25 @@ unfolding firstAtom firstList inner innerAs close closeAs last
 puts-end (atomAlone e f) = omega arith
 puts-end (atomInside e f) = omega arith
 puts-end (listFirst e) = omega arith
-puts-end (listInside e f) = omega arith
+puts-end (listInside e) = omega arith
 puts-end (listClosed e) = omega arith
 puts-end (textEnded e) = omega arith
 
 module _ (s : Style) (room : ℕ) (w : Serializer) where
   -- from a sound record
   pub puts-place : {c : Call} {p : Piece} → isSound w ≡ true → Puts s w c p → step s room w c ≡ place room w p
-  unfolding step putIn beginIn endIn finishIn
-  puts-place h (atomAlone {a = a} {t = t} e f) = put-sound s room w a t h f ∙ put-in s room w a t e
-  puts-place h (atomInside {a = a} {t = t} e f) = put-sound s room w a t h f ∙ put-in s room w a t e
-  puts-place h (listFirst {t = t} e) = begin-sound s room w t h e
-  puts-place h (listInside {t = t} e f) = begin-sound s room w t h e ∙ begin-inner s room w t f
-  puts-place h (listClosed e) = end-sound s room w h e
-  puts-place h (textEnded {wished = wished} e) = finish-sound s room w wished h e
+  unfolding step putAtom putIn beginList beginIn endList endIn finishWriting finishIn
+  puts-place h (atomAlone {a = a} {t = t} e f) = rw (h, f) (ap (λ (q : Phase). putIn q s room w a t) e)
+  puts-place h (atomInside {a = a} {t = t} e f) = rw (h, f) (ap (λ (q : Phase). putIn q s room w a t) e)
+  puts-place h (listFirst {t = t} e) = rw h (ap (λ (q : Phase). beginIn q s room w t) e)
+  puts-place h (listInside {t = t} e) = rw h (ap (λ (q : Phase). beginIn q s room w t) e)
+  puts-place h (listClosed e) = rw h (ap (λ (q : Phase). endIn q s room w) e)
+  puts-place h (textEnded {wished = wished} e) = rw h (ap (λ (q : Phase). finishIn q s room w wished) e)
+
+-- a sound record is sound after each piece that is put
+pub puts-sound : {s : Style} {w : Serializer} {c : Call} {p : Piece} → isSound w ≡ true → Puts s w c p → endOf w p ≤ limit → isSound (p .after) ≡ true
+puts-sound {s} {w} {c} {p} h q e =
+    sym (ap (λ (r : Written). isSound (r .serializer)) (puts-place s limit w h q ∙ placed limit w p (omega arith))) ∙ sound-kept s limit w c h
 
 -- a call that puts a piece leaves the fitting to the rest
 pub put-fits : (s : Style) (room : ℕ) (w : Serializer) (c : Call) (cs : List Call) (p : Piece) → step s room w c ≡ put w p → fits s room w (c ∷ cs) ≡ fits s room (p .after) cs
@@ -68,7 +74,7 @@ module _ (s : Style) (room : ℕ) (w : Serializer) (c : Call) where
   lands a =
       split (isSound w)
       (λ h. lands-of (step s room w c) (verdict s room w c) h a)
-      (λ h. absurd (false≢true (sym (ap (λ (r : Written). isAccepted (r .answer)) (unsound s room w c h)) ∙ a)))
+      (λ h. absurd (false≢true (sym (ap (λ (r : Written). isAccepted (r .answer)) (unsound-call s room w c h)) ∙ a)))
 
 -- it puts its piece
 pub lands-put : {s : Style} {room : ℕ} {w : Serializer} {c : Call} (k : Lands s room w c) → step s room w c ≡ put w (k .piece)

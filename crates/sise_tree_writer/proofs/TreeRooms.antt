@@ -5,21 +5,17 @@ use Prim.Native.Nat.{ℕ, _+_, _≤_, _<_}
 use native.Mathlib.Omega.{arith}
 use mathlib.Core.Path.{_≡_, refl, sym, ap, _∙_}
 use mathlib.Core.Bool.{true, false, false≢true}
-use mathlib.Core.Option.{Option, none, some}
 use mathlib.Core.List.{List, [], _∷_}
-use lib.Dec.{ltb}
 use lib.ListN.{length, take}
 use borrow.Author.Tests.{le-leb, lt-leb}
 use Rattle.sise_util.proofs.Ranges.{split}
-use Rattle.sise_serializer.specs.Serializer.{Style, limit, deepest, isSound, freshSerializer}
+use Rattle.sise_serializer.specs.Serializer.{Style, limit, freshSerializer}
 use Rattle.sise_serializer.specs.declared.serializer.Serializer.{Serializer}
 use Rattle.sise_serializer.specs.Calls.{Call, run}
-use Rattle.sise_tree.specs.Tree.{Node, depth}
-use Rattle.sise_tree.specs.Decision.{decide}
-use Rattle.sise_tree.specs.ParseTree.{longest}
+use Rattle.sise_tree.specs.Tree.{Node}
 use Rattle.sise_tree.specs.Answers.{Answer, answered, refusedWith, numberOf}
-use Rattle.sise_tree_writer.specs.SerializeTree.{atomsHold, fits, Writes, refuse, firstOffset, written, isOver, writeNode, writeTree}
-use Rattle.sise_tree_writer.proofs.WalkDoes.{no-answer}
+use Rattle.sise_tree_writer.specs.SerializeTree.{fits, Writes, refuse, firstOffset, written, writeTree}
+use Rattle.sise_tree_writer.proofs.Measured.{no-answer, left, written-on, written-off, Tested, fails, passes, tested}
 use Rattle.sise_tree_writer.proofs.Placing.{fits-lands}
 use Rattle.sise_tree_writer.proofs.Rooms.{lands-answers, exact-room, alike, larger, text-alike}
 
@@ -37,29 +33,18 @@ pub record SameWithRoom (w : Serializer) (d d′ : Writes) (b′ : List ℕ) : T
   pub short : length b′ < d .serializer .position → d′ ≡ refuse 22 b′ w
 
 module _ (s : Style) (b : List ℕ) (w : Serializer) where
-  written-off : (cs : List Call) → fits s (length b) w cs ≡ false → written s b w cs ≡ refuse 22 b w
-  unfolding written
-  written-off cs f = rw f
-
-  abbrev all : List Call → Writes
-  all cs = record { serializer = run s b w cs .last; answer = firstOffset (run s b w cs .answers); buffer = run s b w cs .buffer }
-
-  written-on : (cs : List Call) → fits s (length b) w cs ≡ true → written s b w cs ≡ all cs
-  unfolding written
-  written-on cs f = rw f
-
   -- calls that fit answer an offset
   pub on-answer : (c : Call) (cs : List Call) → fits s (length b) w (c ∷ cs) ≡ true → (o : ℕ) × (written s b w (c ∷ cs) .answer ≡ answered o)
   on-answer c cs f =
       let k = fits-lands s (length b) w c cs f in
-      (w .position + length (k .piece .layout), ap (λ (x : Writes). x .answer) (written-on (c ∷ cs) f) ∙ ap firstOffset (lands-answers s b w c k cs))
+      (w .position + length (k .piece .layout), ap (λ (x : Writes). x .answer) (written-on s b w (c ∷ cs) f) ∙ ap firstOffset (lands-answers s b w c k cs))
 
 module _ (s : Style) (b b′ : List ℕ) (w : Serializer) where
   more-measured : (c : Call) (cs : List Call) → fits s (length b) w (c ∷ cs) ≡ true → SameWithRoom w (written s b w (c ∷ cs)) (written s b′ w (c ∷ cs)) b′
   more-measured c cs f =
       let l = c ∷ cs in
       let n = run s b w l .last .position in
-      let fit : n ≤ length b′ → written s b′ w l ≡ all s b′ w l = λ le. written-on s b′ w l (exact-room s b w c cs f (length b′) ∙ le-leb n (length b′) le) in
+      let fit : n ≤ length b′ → written s b′ w l ≡ left s b′ w l = λ le. written-on s b′ w l (exact-room s b w c cs f (length b′) ∙ le-leb n (length b′) le) in
       rw (written-on s b w l f)
       (record {
         serializer = λ le. ap (λ (x : Writes). x .serializer) (fit le) ∙ sym (alike s l w b b′ f le .last);
@@ -106,57 +91,36 @@ written-bytes s b b′ (c ∷ cs) h le =
 
 -- ---- a tree
 
--- what a tree call does in each buffer: it is refused before its calls are made, or comes to what they write
-data Comes (s : Style) (w : Serializer) (calls : Node → List Call) (d : List ℕ → Writes) : Type 0 where
-  refused : (k : ℕ) → ((b : List ℕ) → d b ≡ refuse k b w) → Comes s w calls d
-  made : (n : Node) → ((b : List ℕ) → d b ≡ written s b w (calls n)) → Comes s w calls d
-
 module _ (s : Style) (w : Serializer) (text : List ℕ) (calls : Node → List Call) where
-  node-comes : (d : Option Node) → Comes s w calls (λ b. writeNode s b w text calls d)
-  unfolding writeNode
-  node-comes none = refused 15 (λ b. refl)
-  node-comes (some n) =
-      split (atomsHold text n)
-      (λ a.
-      split (isOver (w .phase)) (λ v. refused 19 (λ b. rw (a, v)))
-      (λ v. split (ltb deepest (w .lists + depth n)) (λ t. refused 21 (λ b. rw (a, v, t))) (λ t. made n (λ b. rw (a, v, t)))))
-      (λ a. refused 17 (λ b. rw a))
-
-  tree-comes : (words : List ℕ) → Comes s w calls (λ b. writeTree s b w text words calls)
-  unfolding writeTree
-  tree-comes words =
-      split (ltb longest (length text)) (λ e. refused 13 (λ b. rw e))
-      (λ e. split (isSound w) (λ f. rw (e, f) (node-comes (decide (length text) words))) (λ f. refused 11 (λ b. rw (e, f))))
-
-  measured-of : (d : List ℕ → Writes) → Comes s w calls d → (b b′ : List ℕ) {o : ℕ} → d b .answer ≡ answered o → SameWithRoom w (d b) (d b′) b′
-  measured-of d (refused k e) b b′ h = no-answer (same-answer (e b) h)
-  measured-of d (made n e) b b′ h = rw (e b, e b′) (written-measured s b b′ w (calls n) (same-answer (e b) h))
-
-  refused-of : (d : List ℕ → Writes) → Comes s w calls d → (b b′ : List ℕ) {k : ℕ} → limit ≤ length b → d b .answer ≡ refusedWith k → d b′ ≡ refuse k b′ w
-  refused-of d (refused n e) b b′ le h = e b′ ∙ ap (λ (m : ℕ). refuse m b′ w) (same-number (same-answer (e b) h))
-  refused-of d (made n e) b b′ le h = e b′ ∙ written-refused s b b′ w (calls n) le (same-answer (e b) h)
-
   module _ (b words b′ : List ℕ) where
     -- a tree call that answers an offset in the buffer b
     pub tree-measured : {o : ℕ} → writeTree s b w text words calls .answer ≡ answered o → SameWithRoom w (writeTree s b w text words calls) (writeTree s b′ w text words calls) b′
-    tree-measured h = measured-of (λ x. writeTree s x w text words calls) (tree-comes words) b b′ h
+    tree-measured h = of (tested s w text words)
+      where
+        of : Tested s w text words → SameWithRoom w (writeTree s b w text words calls) (writeTree s b′ w text words calls) b′
+        of (fails k lt q) = no-answer (same-answer (q b calls) h)
+        of (passes n d a f v q) = rw (q b calls, q b′ calls) (written-measured s b b′ w (calls n) (same-answer (q b calls) h))
 
     -- a tree call that a buffer of 16,777,216 bytes or more refuses, each buffer refuses with the same number
-    pub tree-refused : {k : ℕ} → limit ≤ length b → writeTree s b w text words calls .answer ≡ refusedWith k → writeTree s b′ w text words calls ≡ refuse k b′ w
-    tree-refused le h = refused-of (λ x. writeTree s x w text words calls) (tree-comes words) b b′ le h
+    pub tree-refused : (k : ℕ) → limit ≤ length b → writeTree s b w text words calls .answer ≡ refusedWith k → writeTree s b′ w text words calls ≡ refuse k b′ w
+    tree-refused k le h = of (tested s w text words)
+      where
+        of : Tested s w text words → writeTree s b′ w text words calls ≡ refuse k b′ w
+        of (fails n lt q) = q b′ calls ∙ ap (λ (m : ℕ). refuse m b′ w) (same-number (same-answer (q b calls) h))
+        of (passes n d a f v q) = q b′ calls ∙ written-refused s b b′ w (calls n) le (same-answer (q b calls) h)
 
 -- and in every buffer that holds it a whole text has the same bytes
 module _ (s : Style) (text : List ℕ) (calls : Node → List Call) (b words b′ : List ℕ) where
   abbrev whole : List ℕ → Writes
   whole x = writeTree s x freshSerializer text words calls
 
-  bytes-of : Comes s freshSerializer calls whole → {o : ℕ} → whole b .answer ≡ answered o → whole b .serializer .position ≤ length b′ → bytesIn (whole b) ≡ bytesIn (whole b′)
-  bytes-of (refused k e) h le = no-answer (same-answer (e b) h)
-  bytes-of (made n e) h le =
-      ap bytesIn (e b)
-      ∙ written-bytes s b b′ (calls n) (same-answer (e b) h) (rw (e b) at le)
-      ∙ sym (ap bytesIn (e b′))
+  bytes-of : Tested s freshSerializer text words → {o : ℕ} → whole b .answer ≡ answered o → whole b .serializer .position ≤ length b′ → bytesIn (whole b) ≡ bytesIn (whole b′)
+  bytes-of (fails k lt q) h le = no-answer (same-answer (q b calls) h)
+  bytes-of (passes n d a f v q) h le =
+      ap bytesIn (q b calls)
+      ∙ written-bytes s b b′ (calls n) (same-answer (q b calls) h) (rw (q b calls) at le)
+      ∙ sym (ap bytesIn (q b′ calls))
 
   pub tree-bytes : {o : ℕ} → writeTree s b freshSerializer text words calls .answer ≡ answered o → writeTree s b freshSerializer text words calls .serializer .position ≤ length b′
       → bytesIn (writeTree s b freshSerializer text words calls) ≡ bytesIn (writeTree s b′ freshSerializer text words calls)
-  tree-bytes h le = bytes-of (tree-comes s freshSerializer text calls words) h le
+  tree-bytes h le = bytes-of (tested s freshSerializer text words) h le

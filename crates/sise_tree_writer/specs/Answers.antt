@@ -2,7 +2,7 @@
 -- Assumes nothing.
 use Rattle.sise_tree.specs.Answers.{Answer, answered, refusedWith}
 use Rattle.sise_tree_writer.specs.declared.serialize.PutTree.{PutTree}
-use Rattle.sise_tree_writer.specs.declared.serialize.PutTree.the-variants.{At, TextTooLong, UnsoundRecord, NotATree, InvalidAtom, WritingFinished, TooDeep, NoRoom}
+use Rattle.sise_tree_writer.specs.declared.serialize.PutTree.the-variants.{At, TextTooLong, UnsoundRecord, NotATree, InvalidAtom, WritingFinished, NoRoom}
 
 -- the numbers and values of each case
 abbrev pub putAs : PutTree → Answer
@@ -12,5 +12,4 @@ putAs UnsoundRecord = refusedWith 11
 putAs NotATree = refusedWith 15
 putAs InvalidAtom = refusedWith 17
 putAs WritingFinished = refusedWith 19
-putAs TooDeep = refusedWith 21
 putAs NoRoom = refusedWith 22

@@ -4,6 +4,6 @@ pub mod Alike
 pub mod Rows
 pub mod Writing
 pub mod House
-pub mod Measuring
-pub mod Drawing
+pub mod Planning
+pub mod Walking
 pub mod WriteExamples

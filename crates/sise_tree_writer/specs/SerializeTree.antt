@@ -1,6 +1,6 @@
 -- What serialize_tree answers and writes (document 01, "Trees" and "Refusals").
 -- Assumes nothing.
-use Prim.Native.Nat.{ℕ, _+_}
+use Prim.Native.Nat.{ℕ}
 use mathlib.Core.Path.{_≡_}
 use mathlib.Core.Bool.{Bool, true, false, _&&_, cond}
 use mathlib.Core.Option.{Option, none, some}
@@ -10,12 +10,12 @@ use lib.ListN.{length, drop}
 use Rattle.sise_util.specs.Atom.{isAtomPrefix}
 use Rattle.sise_parser.specs.Reader.{partOf}
 use Rattle.sise_serializer.specs.Serializer as writer
-use Rattle.sise_serializer.specs.Serializer.{Style, isSound, deepest}
+use Rattle.sise_serializer.specs.Serializer.{Style, isSound}
 use Rattle.sise_serializer.specs.declared.serializer.Phase.{Phase}
 use Rattle.sise_serializer.specs.declared.serializer.Phase.the-variants.{Beginning, Writing, Finished, Done}
 use Rattle.sise_serializer.specs.declared.serializer.Serializer.{Serializer}
 use Rattle.sise_serializer.specs.Calls.{largest, isAccepted, Call, putAtomCall, beginListCall, endListCall, step, run}
-use Rattle.sise_tree.specs.Tree.{Node, atom, list, Nodes, empty, _then_, depth}
+use Rattle.sise_tree.specs.Tree.{Node, atom, list, Nodes, empty, _then_}
 use Rattle.sise_tree.specs.Decision.{decide}
 use Rattle.sise_tree.specs.ParseTree.{longest}
 use Rattle.sise_tree.specs.Answers.{Answer, answered, refused, refusedWith}
@@ -83,17 +83,15 @@ isOver Writing = false
 isOver Finished = true
 isOver Done = true
 
--- what follows 15: 17, 19, 21 ("a list would be the 201st open"), 22, "each over the whole node before the next"; the calls are made of the node
+-- what follows 15: 17, 19, 22, "each over the whole node before the next"; the calls are made of the node
 unfoldable pub writeNode : Style → List ℕ → Serializer → List ℕ → (Node → List Call) → Option Node → Writes
 writeNode s buffer w text calls none = refuse 15 buffer w
 writeNode s buffer w text calls (some n) =
     cond (atomsHold text n)
-    (cond (isOver (w .phase))
-    (refuse 19 buffer w)
-    (cond (ltb deepest (w .lists + depth n)) (refuse 21 buffer w) (written s buffer w (calls n))))
+    (cond (isOver (w .phase)) (refuse 19 buffer w) (written s buffer w (calls n)))
     (refuse 17 buffer w)
 
--- "`serialize_tree`: 13, 11, 15, 17, 19, 21, 22"
+-- "`serialize_tree`: 13, 11, 15, 17, 19, 22", since 2.6 without 21
 unfoldable pub writeTree : Style → List ℕ → Serializer → List ℕ → List ℕ → (Node → List Call) → Writes
 writeTree s buffer w text words calls =
     cond (ltb longest (length text))

@@ -11,11 +11,11 @@ use Rattle.sise_util.specs.Atom.{isAtom, outside, inside, escaped, isAtomPrefix
 use Rattle.sise_parser.specs.Reader.{partOf}
 use Rattle.sise_parser.specs.Examples.{workedText as text}
 use Rattle.sise_serializer.specs.Bytes.{pasted}
-use Rattle.sise_serializer.specs.Serializer.{deepest, freshSerializer, isSound, place, firstAtom, firstList, laid, innerAs, inner, phaseAfter, flagsAfter, closeAs, close, last, putIn, putAtom, beginIn, beginList, endIn, endList, finishIn, finishWriting}
+use Rattle.sise_serializer.specs.Serializer.{freshSerializer, isSound, place, firstAtom, firstList, laid, innerAs, inner, phaseAfter, closeAs, close, last, putIn, putAtom, beginIn, beginList, endIn, endList, finishIn, finishWriting}
 use Rattle.sise_serializer.specs.declared.serializer.Phase.the-variants.{Writing}
 use Rattle.sise_serializer.specs.declared.serializer.Serializer.{Serializer}
 use Rattle.sise_serializer.specs.Calls.{largest, step, run}
-use Rattle.sise_tree.specs.Tree.{atom, list, empty, _then_, size, sizes, children, depth, depths, table, tables}
+use Rattle.sise_tree.specs.Tree.{atom, list, empty, _then_, size, sizes, children, tableAt, table, tables}
 use Rattle.sise_tree.specs.Decision.{guard, bind, row, ahead, only, decide}
 use Rattle.sise_tree.specs.TableExamples.{worked as tree}
 use Rattle.sise_tree.specs.Answers.{Answer, answered, refusedWith}
@@ -27,18 +27,18 @@ use Rattle.sise_tree_writer.specs.House.{houseStyle, houseAt, house}
 abbrev used : ℕ → List ℕ
 used n = replicate n 255
 
--- a record inside 200 lists
-unfoldable full : Serializer
-full = record {
+-- a record inside 200 lists, just begun
+unfoldable deep : Serializer
+deep = record {
   position = 200;
-  phase = Writing;
-  lists = deepest;
-  «line_broken» = replicate deepest false;
-  «list_beginning» = true;
+  lists = 200;
+  broken = 0;
   «line_len» = 200;
   spaces = 0;
   breaks = 0;
   indents = 0;
+  phase = Writing;
+  «list_beginning» = true;
 }
 
 -- a record after its one atom, `a`
@@ -83,7 +83,7 @@ record Written : Type 0 where
   at72 : shown (house (used 81) (long 71) (longTable 71)) ≡ record { text = lead 71 ++ 10 ∷ 32 ∷ 32 ∷ 98 ∷ 32 ∷ 99 ∷ 10 ∷ 41 ∷ 10 ∷ []; answer = answered 0 }
 
 written-so : Written
-unfolding text shown serializeTree houseAt houseStyle textCalls writeTree writeNode written fits nodeCalls rowCalls atomsHold atomsHoldAll isAtomPrefix partOf decide row ahead only guard bind size sizes children depth depths table tables run step pasted freshSerializer isSound place firstAtom firstList laid innerAs inner phaseAfter flagsAfter closeAs close last putIn putAtom beginIn beginList endIn endList finishIn finishWriting isAtom outside inside escaped classOf isAtomChr marks oneOf within
+unfolding text shown serializeTree houseAt houseStyle textCalls writeTree writeNode written fits nodeCalls rowCalls atomsHold atomsHoldAll isAtomPrefix partOf decide row ahead only guard bind size sizes children tableAt tables run step pasted freshSerializer isSound place firstAtom firstList laid innerAs inner phaseAfter closeAs close last putIn putAtom beginIn beginList endIn endList finishIn finishWriting isAtom outside inside escaped classOf isAtomChr marks oneOf within
 written-so = record { unbroken = refl; atZero = refl; inHouse = refl; atomInHouse = refl; at71 = refl; at72 = refl }
 
 record Refusals : Type 0 where
@@ -91,8 +91,9 @@ record Refusals : Type 0 where
   oneByteShort : house (used 16) text (table tree) ≡ record { serializer = freshSerializer; answer = refusedWith 22; buffer = used 16 }
   -- "the zero-length atom isn't" one
   zeroLength : shown (serializeTree houseStyle [] freshSerializer text (1 ∷ 1 ∷ 0 ∷ 1 ∷ []) 0) ≡ record { text = []; answer = refusedWith 17 }
-  -- 21 before 22
-  tooDeep : serializeTree houseStyle [] full text (0 ∷ 0 ∷ 0 ∷ 1 ∷ []) 0 .answer ≡ refusedWith 21
+  -- a list inside 200 is written where its two bytes have room
+  deeper : serializeTree houseStyle (used 202) deep text (0 ∷ 0 ∷ 0 ∷ 1 ∷ []) 201 .answer ≡ answered 200
+  deepest : serializeTree houseStyle (used 201) deep text (0 ∷ 0 ∷ 0 ∷ 1 ∷ []) 201 .answer ≡ refusedWith 22
   -- 15 before 17
   noTree : serializeTree houseStyle [] freshSerializer text (0 ∷ 1 ∷ 0 ∷ 3 ∷ 1 ∷ 1 ∷ 0 ∷ 1 ∷ []) 0 .answer ≡ refusedWith 15
   -- 17 before 19
@@ -101,5 +102,5 @@ record Refusals : Type 0 where
   isFinished : serializeTree houseStyle [] finished text (1 ∷ 1 ∷ 1 ∷ 1 ∷ []) 0 .answer ≡ refusedWith 19
 
 refusals : Refusals
-unfolding text shown full finished serializeTree houseAt houseStyle textCalls writeTree writeNode written fits nodeCalls rowCalls atomsHold atomsHoldAll isAtomPrefix partOf decide row ahead only guard bind size sizes children depth depths table tables run step pasted freshSerializer isSound place firstAtom firstList laid innerAs inner phaseAfter flagsAfter closeAs close last putIn putAtom beginIn beginList endIn endList finishIn finishWriting isAtom outside inside escaped classOf isAtomChr marks oneOf within
-refusals = record { oneByteShort = refl; zeroLength = refl; tooDeep = refl; noTree = refl; zeroLengthFinished = refl; isFinished = refl }
+unfolding text shown deep finished serializeTree houseAt houseStyle textCalls writeTree writeNode written fits nodeCalls rowCalls atomsHold atomsHoldAll isAtomPrefix partOf decide row ahead only guard bind size sizes children tableAt tables run step pasted freshSerializer isSound place firstAtom firstList laid innerAs inner phaseAfter closeAs close last putIn putAtom beginIn beginList endIn endList finishIn finishWriting isAtom outside inside escaped classOf isAtomChr marks oneOf within
+refusals = record { oneByteShort = refl; zeroLength = refl; deeper = refl; deepest = refl; noTree = refl; zeroLengthFinished = refl; isFinished = refl }

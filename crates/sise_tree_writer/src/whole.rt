@@ -1,15 +1,75 @@
-// Whole texts, written from a lent table, or measured.
+// Whole texts, written from a lent table, or measured: the tree, and a finish.
+use crate::plan::plan_finish;
+use crate::serialize::PutTree;
 use crate::serialize::TreeWrote;
 use crate::serialize::measure_tree;
-use crate::serialize::write_tree;
+use crate::walk::Walked;
+use crate::walk::walk;
+use sise_serializer::Put;
 use sise_serializer::Serializer;
 ghost use mathlib.Core.Path.{_≡_};
-ghost use mathlib.Core.List.{List};
-ghost use Prim.Native.Nat.{ℕ};
-ghost use lib.ListN.{length};
 ghost use Rattle.sise_serializer.specs.Serializer.{style};
-ghost use Rattle.sise_tree_writer.specs.SerializeTree.{DoesWrite, DoesMeasure};
-ghost use Rattle.sise_tree_writer.specs.Writing.{writeText};
+ghost use Rattle.sise_tree_writer.specs.SerializeTree.{DoesWrite};
+ghost use Rattle.sise_tree_writer.specs.Writing.{writeText, MeasuresText};
+ghost use Rattle.sise_tree_writer.specs.Walking.{finished};
+
+// What write_text answers with a buffer of `room` bytes, and the record that it leaves. Nothing is written.
+pub fn measure_text(
+    line_break: &[u8],
+    indentation: &[u8],
+    room: usize,
+    text: &[u8],
+    table: &[u32],
+    break_line_at: u64,
+    final_break: bool,
+) -> TreeWrote
+    ensures { λ r. ⌜ MeasuresText (style (now («line_break» .entry)) (now (indentation .entry))) room (now (text .entry)) (now (table .entry)) «break_line_at» «final_break» r ⌝ }
+{
+    let fresh = Serializer::new();
+    let measured = measure_tree(
+        fresh,
+        line_break,
+        indentation,
+        room,
+        text,
+        table,
+        break_line_at,
+    );
+    let answer = measured.answer;
+    let PutTree::At(offset) = answer else {
+        return measured;
+    };
+    let done = measured.serializer;
+    let planned = plan_finish(done, line_break, indentation, room, final_break);
+    let put = planned.answer;
+    let Put::At(_) = put else {
+        return TreeWrote {
+            serializer: fresh,
+            answer: PutTree::NoRoom,
+        };
+    };
+    let last = planned.serializer;
+    TreeWrote {
+        serializer: last,
+        answer: PutTree::At(offset),
+    }
+}
+
+// The finish behind a tree that was written.
+fn finish_tree(
+    walked: Walked,
+    line_break: &[u8],
+    indentation: &[u8],
+    buf: &mut [u8],
+    final_break: bool,
+)
+    ensures { λ _. ⌜ now (buf .exit) ≡ finished (style (now («line_break» .entry)) (now (indentation .entry))) walked (now (buf .entry)) «final_break» ⌝ }
+{
+    let Walked::Fits(serializer, _) = walked else {
+        return;
+    };
+    serializer.finish(line_break, indentation, buf, final_break);
+}
 
 // Writes a whole text: the tree that the table holds over `text`, and a line break behind it if wished.
 pub fn write_text(
@@ -23,32 +83,8 @@ pub fn write_text(
 ) -> TreeWrote
     ensures { λ r. ⌜ DoesWrite (writeText (style (now («line_break» .entry)) (now (indentation .entry))) (now (buf .entry)) (now (text .entry)) (now (table .entry)) «break_line_at» «final_break») r (now (buf .exit)) ⌝ }
 {
-    write_tree(
-        Serializer::new(),
-        line_break,
-        indentation,
-        buf,
-        text,
-        table,
-        break_line_at,
-        final_break,
-    )
-}
-
-// What write_text answers with a buffer of `room` bytes, and the record that it leaves. Nothing is written.
-pub fn measure_text(
-    line_break: &[u8],
-    indentation: &[u8],
-    room: usize,
-    text: &[u8],
-    table: &[u32],
-    break_line_at: u64,
-    final_break: bool,
-) -> TreeWrote
-    ensures { λ r. ⌜ ((b : List ℕ) → length b ≡ room → DoesMeasure (writeText (style (now («line_break» .entry)) (now (indentation .entry))) b (now (text .entry)) (now (table .entry)) «break_line_at» «final_break») r) ⌝ }
-{
-    measure_tree(
-        Serializer::new(),
+    let room = buf.len();
+    let measured = measure_text(
         line_break,
         indentation,
         room,
@@ -56,5 +92,22 @@ pub fn measure_text(
         table,
         break_line_at,
         final_break,
-    )
+    );
+    let answer = measured.answer;
+    let PutTree::At(_) = answer else {
+        return measured;
+    };
+    let walked = walk(
+        Serializer::new(),
+        line_break,
+        indentation,
+        buf,
+        room,
+        text,
+        table,
+        break_line_at,
+        true,
+    );
+    finish_tree(walked, line_break, indentation, buf, final_break);
+    measured
 }

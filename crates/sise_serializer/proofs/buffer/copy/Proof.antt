@@ -17,68 +17,27 @@ Inv-loop buf₀ at src i₀ buf i = (buf ≡ paste buf₀ at src i) × (i ≤ le
 abbrev μ-loop : tie.MeasureT-loop
 μ-loop buf₀ at src i₀ buf i = length src - i
 
-shared-slice-read-buf : tie.Need-shared-slice-read-buf Inv-loop μ-loop
-shared-slice-read-buf c = search needs
-
-slice-write-buf : tie.Need-slice-write-buf Inv-loop μ-loop
-slice-write-buf c = search needs
-
-same-length : tie.Need-same-length Inv-loop μ-loop
-same-length c = search needs
-
-returns : tie.Need-returns Inv-loop μ-loop
-returns c = let a = c .before .before .args in pasted-single (a .buf .now) (a .at) (a .src .now) (omega (arith, c .before .before .pre, c .before .if1 .taken)) (c .before .if1 .taken)
-
-loop-holds : tie.Need-loop-holds Inv-loop μ-loop
-loop-holds c = let a = c .before .args in (paste-zero (a .buf .now) (a .at) (a .src .now), omega arith, refl)
-
-shared-slice-read-buf-2 : tie.Need-shared-slice-read-buf-2 Inv-loop μ-loop
-shared-slice-read-buf-2 c = search needs
-
-add-buf : tie.Need-add-buf Inv-loop μ-loop
-add-buf c = search needs
-
-slice-write-buf-2 : tie.Need-slice-write-buf-2 Inv-loop μ-loop
-slice-write-buf-2 c = search needs
-
-add-i : tie.Need-add-i Inv-loop μ-loop
-add-i c = search needs
-
-loop-less : tie.Need-loop-less Inv-loop μ-loop
-loop-less c = search needs
-
-loop-again : tie.Need-loop-again Inv-loop μ-loop
-loop-again c =
-    let l = c .before .before .loop in
-    let a = c .before .before .before .before .args in
-    (rw (l .inv .0, add-one, ← paste-suc (a .buf .now) (a .at) (a .src .now) (l .i) 0 (omega arith) (c .before .loop-test .taken)), omega arith, simp length-set (l .inv .2))
-
-same-length-2 : tie.Need-same-length-2 Inv-loop μ-loop
-same-length-2 c = search needs
-
-returns-2 : tie.Need-returns-2 Inv-loop μ-loop
-returns-2 c =
-    let l = c .before .loop in
-    let a = c .before .before .before .args in
-    let all : l .i ≡ length (a .src .now) = omega arith in
-    l .inv .0 ∙ rw all (pasted-paste (a .buf .now) (a .at) (a .src .now))
-
 pub copy-spec : {M : Type 1} → statement M
 copy-spec =
     tie.close
     (tie.spec
     Inv-loop
     μ-loop
-    shared-slice-read-buf
-    slice-write-buf
-    same-length
-    returns
-    loop-holds
-    shared-slice-read-buf-2
-    add-buf
-    slice-write-buf-2
-    add-i
-    loop-less
-    loop-again
-    same-length-2
-    returns-2)
+    (λ c. search needs)  -- shared-slice-read-buf
+    (λ c. search needs)  -- slice-write-buf
+    (λ c. search needs)  -- same-length
+    (λ c. let a = c .before .before .args in pasted-single (a .buf .now) (a .at) (a .src .now) (omega (arith, c .before .before .pre, c .before .if1 .taken)) (c .before .if1 .taken))  -- returns
+    (λ c. let a = c .before .args in (paste-zero (a .buf .now) (a .at) (a .src .now), omega arith, refl))  -- loop-holds
+    (λ c. search needs)  -- shared-slice-read-buf-2
+    (λ c. search needs)  -- add-buf
+    (λ c. search needs)  -- slice-write-buf-2
+    (λ c. search needs)  -- add-i
+    (λ c. search needs)  -- loop-less
+    (λ c. let l = c .before .before .loop in
+    let a = c .before .before .before .before .args in
+    (rw (l .inv .0, add-one, ← paste-suc (a .buf .now) (a .at) (a .src .now) (l .i) 0 (omega arith) (c .before .loop-test .taken)), omega arith, simp length-set (l .inv .2)))  -- loop-again
+    (λ c. search needs)  -- same-length-2
+    (λ c. let l = c .before .loop in
+    let a = c .before .before .before .args in
+    let all : l .i ≡ length (a .src .now) = omega arith in
+    l .inv .0 ∙ rw all (pasted-paste (a .buf .now) (a .at) (a .src .now))))  -- returns-2

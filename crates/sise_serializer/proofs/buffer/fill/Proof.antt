@@ -26,44 +26,19 @@ Inv-loop buf₀ at times byte k₀ buf k = (buf ≡ pasted buf₀ at (repeat k (
 abbrev μ-loop : tie.MeasureT-loop
 μ-loop buf₀ at times byte k₀ buf k = times - k
 
-loop-holds : tie.Need-loop-holds Inv-loop μ-loop
-loop-holds c = (sym (pasted-none (c .args .buf .now) (c .args .at)), omega arith, refl)
-
-add-buf : tie.Need-add-buf Inv-loop μ-loop
-add-buf c = search needs
-
-slice-write-buf : tie.Need-slice-write-buf Inv-loop μ-loop
-slice-write-buf c = search needs
-
-add-k : tie.Need-add-k Inv-loop μ-loop
-add-k c = search needs
-
-loop-less : tie.Need-loop-less Inv-loop μ-loop
-loop-less c = search needs
-
-loop-again : tie.Need-loop-again Inv-loop μ-loop
-loop-again c =
-    let l = c .before .loop in
-    let a = c .before .before .args in
-    (more (a .buf .now) (l .buf) (a .at) (l .k) (a .byte) (l .inv .0) (l .inv .2) (omega arith), omega arith, simp length-set (l .inv .2))
-
-same-length : tie.Need-same-length Inv-loop μ-loop
-same-length c = search needs
-
-returns : tie.Need-returns Inv-loop μ-loop
-returns c = let all : c .before .loop .k ≡ c .before .before .args .times = omega arith in rw (← all) (c .before .loop .inv .0)
-
 pub fill-spec : {M : Type 1} → statement M
 fill-spec =
     tie.close
     (tie.spec
     Inv-loop
     μ-loop
-    loop-holds
-    add-buf
-    slice-write-buf
-    add-k
-    loop-less
-    loop-again
-    same-length
-    returns)
+    (λ c. (sym (pasted-none (c .args .buf .now) (c .args .at)), omega arith, refl))  -- loop-holds
+    (λ c. search needs)  -- add-buf
+    (λ c. search needs)  -- slice-write-buf
+    (λ c. search needs)  -- add-k
+    (λ c. search needs)  -- loop-less
+    (λ c. let l = c .before .loop in
+    let a = c .before .before .args in
+    (more (a .buf .now) (l .buf) (a .at) (l .k) (a .byte) (l .inv .0) (l .inv .2) (omega arith), omega arith, simp length-set (l .inv .2)))  -- loop-again
+    (λ c. search needs)  -- same-length
+    (λ c. let all : c .before .loop .k ≡ c .before .before .args .times = omega arith in rw (← all) (c .before .loop .inv .0)))  -- returns

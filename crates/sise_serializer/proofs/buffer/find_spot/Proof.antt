@@ -8,51 +8,18 @@ use Rattle.sise_serializer.proofs.Spots.{spot-at, spot-none}
 use Rattle.sise_serializer.proofs.buffer.find_spot.Statement.{statement}
 use Rattle.sise_serializer.proofs.buffer.find_spot.Tie as tie
 
-smaller-requires : tie.Need-smaller-requires
-smaller-requires c κs = search needs
-
-returns : tie.Need-returns
-returns c = spot-none _ _ _ _ (omega arith)
-
-returns-2 : tie.Need-returns-2
-returns-2 c = spot-none _ _ _ _ (omega arith)
-
-returns-3 : tie.Need-returns-3
-returns-3 c = spot-none _ _ _ _ (omega arith)
-
-has-room-requires : tie.Need-has-room-requires
-has-room-requires c κs = search needs
-
-mul-layout : tie.Need-mul-layout
-mul-layout c = let e = sym (c .before .has-room .ensures) ∙ c .if4 .taken in omega (arith, leb-true)
-
-add-layout : tie.Need-add-layout
-add-layout c = let e = sym (c .before .has-room .ensures) ∙ c .if4 .taken in omega (arith, leb-true)
-
-add-at : tie.Need-add-at
-add-at c = let e = sym (c .before .has-room .ensures) ∙ c .if4 .taken in omega (arith, leb-true)
-
-add-t15 : tie.Need-add-t15
-add-t15 c = let e = sym (c .before .has-room .ensures) ∙ c .if4 .taken in omega (arith, leb-true)
-
-returns-4 : tie.Need-returns-4
-returns-4 c = spot-at _ _ _ _ (let e = sym (c .before .has-room .ensures) ∙ c .if4 .taken in omega (arith, leb-true))
-
-returns-5 : tie.Need-returns-5
-returns-5 c = spot-none _ _ _ _ (let e = sym (c .before .has-room .ensures) ∙ c .if4 .left in omega (arith, leb-false))
-
 pub find-spot-spec : {M : Type 1} → statement M
 find-spot-spec =
     tie.close
     (tie.spec
-    smaller-requires
-    returns
-    returns-2
-    returns-3
-    has-room-requires
-    mul-layout
-    add-layout
-    add-at
-    add-t15
-    returns-4
-    returns-5)
+    (λ c κs. search needs)  -- smaller-requires
+    (λ c. spot-none _ _ _ _ (omega arith))  -- returns
+    (λ c. spot-none _ _ _ _ (omega arith))  -- returns-2
+    (λ c. spot-none _ _ _ _ (omega arith))  -- returns-3
+    (λ c κs. search needs)  -- has-room-requires
+    (λ c. let e = sym (c .before .has-room .ensures) ∙ c .if4 .taken in omega (arith, leb-true))  -- mul-layout
+    (λ c. let e = sym (c .before .has-room .ensures) ∙ c .if4 .taken in omega (arith, leb-true))  -- add-layout
+    (λ c. let e = sym (c .before .has-room .ensures) ∙ c .if4 .taken in omega (arith, leb-true))  -- add-at
+    (λ c. let e = sym (c .before .has-room .ensures) ∙ c .if4 .taken in omega (arith, leb-true))  -- add-t15
+    (λ c. spot-at _ _ _ _ (let e = sym (c .before .has-room .ensures) ∙ c .if4 .taken in omega (arith, leb-true)))  -- returns-4
+    (λ c. spot-none _ _ _ _ (let e = sym (c .before .has-room .ensures) ∙ c .if4 .left in omega (arith, leb-false))))  -- returns-5

@@ -9,30 +9,19 @@ use Rattle.sise_serializer.proofs.Bytes.{layout-length, pasted-more}
 use Rattle.sise_serializer.proofs.buffer.write_line.Statement.{statement}
 use Rattle.sise_serializer.proofs.buffer.write_line.Tie as tie
 
-copy-requires : tie.Need-copy-requires
-copy-requires c κs =
-    let a = c .before .before .before .before .args in
-    omega (arith, layout-length (a .line-break .now) (a .times) (a .indentation .now))
-
-add-copies : tie.Need-add-copies
-add-copies c = search needs
-
-copies-requires : tie.Need-copies-requires
-copies-requires c κs =
-    let a = c .before .before .before .before .before .before .before .before .args in
-    omega (arith, layout-length (a .line-break .now) (a .times) (a .indentation .now))
-
-same-length : tie.Need-same-length
-same-length c = search needs
-
-returns : tie.Need-returns
-returns c =
-    let second = c .before .before in
+pub write-line-spec : {M : Type 1} → statement M
+write-line-spec =
+    tie.close
+    (tie.spec
+    (λ c κs. let a = c .before .before .before .before .args in
+    omega (arith, layout-length (a .line-break .now) (a .times) (a .indentation .now)))  -- copy-requires
+    (λ c. search needs)  -- add-copies
+    (λ c κs. let a = c .before .before .before .before .before .before .before .before .args in
+    omega (arith, layout-length (a .line-break .now) (a .times) (a .indentation .now)))  -- copies-requires
+    (λ c. search needs)  -- same-length
+    (λ c. let second = c .before .before in
     let a = c .before .before .before .before .before .before .before .before .before .before .before .args in
     let text = a .line-break .now in
     let steps = repeat (a .times) (a .indentation .now) in
     let size = length-append text steps in
-    (second .copies .ensures .0 ∙ omega (arith, size), second .copies .ensures .1 ∙ rw (c .before .before .before .before .before .before .copy .ensures) (pasted-more (a .buf .now) (a .at) text (omega (arith, size)) steps))
-
-pub write-line-spec : {M : Type 1} → statement M
-write-line-spec = tie.close (tie.spec copy-requires add-copies copies-requires same-length returns)
+    (second .copies .ensures .0 ∙ omega (arith, size), second .copies .ensures .1 ∙ rw (c .before .before .before .before .before .before .copy .ensures) (pasted-more (a .buf .now) (a .at) text (omega (arith, size)) steps))))  -- returns

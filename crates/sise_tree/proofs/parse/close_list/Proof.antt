@@ -1,4 +1,4 @@
--- The list's link is read, its third and fourth words are those of a closed list, and its own list counts it.
+-- The list's distance leads back to its parent, its fourth word is that of a closed list, and its parent counts it.
 -- Assumes nothing.
 use native.Mathlib.Omega.{arith}
 use mathlib.Core.Path.{_∙_}
@@ -8,49 +8,41 @@ use Rattle.sise_tree.proofs.FillingParts.{closing, closed-attachable, c
 use Rattle.sise_tree.proofs.parse.close_list.Statement.{statement}
 use Rattle.sise_tree.proofs.parse.close_list.Tie as tie
 
-sub-first : tie.Need-sub-first
-sub-first c = closing _ (c .before .pre) .begun
+slice-read-outer : tie.Need-slice-read-outer
+slice-read-outer c = let k = closing _ (c .before .before .before .pre) in omega (arith, k .early, k .within, c .before .wide .ensures .0)
 
-slice-read-link : tie.Need-slice-read-link
-slice-read-link c = let k = closing _ (c .before .before .before .pre) in omega (arith, k .begun, k .early, k .within)
+sub-outer : tie.Need-sub-outer
+sub-outer c = let k = closing _ (c .before .before .before .pre) in rw (c .before .wide .ensures .0) (k .back)
 
 sub-table : tie.Need-sub-table
 sub-table c = let k = closing _ (c .before .before .before .pre) in omega (arith, k .early)
 
-slice-write-table-2 : tie.Need-slice-write-table-2
-slice-write-table-2 c =
-    let k = closing _ (c .before .before .before .pre) in
-    simp length-set (omega (arith, k .begun, k .early, k .within))
-
 count-child-requires : tie.Need-count-child-requires
 count-child-requires c κs =
-    let (f, k, rest, h) = c .before .before .before .before .pre in
-    (f, _, rest, closed-attachable _ (c .before .before .wide .ensures .0) (c .before .before .before .before .fits .next .fits) f k rest h)
+    let start = c .before .before .before .before in
+    let (f, k, rest, h) = start .pre in
+    (f, _, rest, closed-attachable _ (c .before .before .wide .ensures .0) (start .fits .next .fits) f k rest h)
 
 returns : tie.Need-returns
 returns c =
-    let start = c .before .before .before .before .before .before .before in
-    closes-set _ (c .before .before .before .before .before .wide .ensures .0) (start .fits .next .fits) (c .before .before .count-child .ensures)
+    let wide = c .before .before .before .before .before in
+    closes-set _ (wide .wide .ensures .0) (wide .before .before .fits .next .fits) (c .before .before .count-child .ensures)
 
 pub close-list-spec : {M : Type 1} → statement M
 close-list-spec =
     tie.close
     (tie.spec
-    sub-first
     (λ c κs. search needs)  -- wide-requires
-    (λ c. search needs)  -- mul-link
-    (λ c. search needs)  -- add-link
-    (λ c. search needs)  -- mul-link-2
-    slice-read-link
+    (λ c. search needs)  -- mul-outer
+    (λ c. search needs)  -- add-outer
+    (λ c. search needs)  -- mul-outer-2
+    slice-read-outer
+    sub-outer
+    sub-table
     (λ c. search needs)  -- mul-table
     (λ c. search needs)  -- add-table
     (λ c. search needs)  -- mul-table-2
-    slice-read-link  -- slice-write-table
-    sub-table
-    (λ c. search needs)  -- mul-table-3
-    (λ c. search needs)  -- add-table-2
-    (λ c. search needs)  -- mul-table-4
-    slice-write-table-2
+    (λ c. let k = closing _ (c .before .before .before .pre) in omega (arith, k .early, k .within, c .before .wide .ensures .0))  -- slice-write-table
     count-child-requires
     (λ c. c .before .before .count-child .kept .0 ∙ simp length-set)  -- same-length
     returns)

@@ -1,8 +1,6 @@
--- A link of 0 has no list to count; else its list's second word grows by one, which is what one child more makes of the words.
+-- The root has no list to count it; else the list's second word grows by one, which is what one child more makes of the words.
 -- Assumes nothing.
-use Prim.Native.Nat.{ℕ, _-_}
 use native.Mathlib.Omega.{arith}
-use mathlib.Core.Path.{ap}
 use borrow.Author.Needs.{needs}
 use Rattle.sise_tree.proofs.FillingParts.{attaches-none, counting, attaches-set}
 use Rattle.sise_tree.proofs.parse.count_child.Statement.{statement}
@@ -11,15 +9,12 @@ use Rattle.sise_tree.proofs.parse.count_child.Tie as tie
 slice-read-count : tie.Need-slice-read-count
 slice-read-count c =
     let k = counting _ (c .before .before .if1 .left) (c .before .before .before .before .pre) in
-    omega (arith, k .within, c .before .before .if1 .left)
+    omega (arith, k .within, c .before .wide .ensures .0)
 
 add-table : tie.Need-add-table
 add-table c =
     let k = counting _ (c .before .before .if1 .left) (c .before .before .before .before .pre) in
     rw (c .before .wide .ensures .0) (record { fits = k .small })
-
-returns-2 : tie.Need-returns-2
-returns-2 c = attaches-set _ (c .before .before .if1 .left) (ap (λ (x : ℕ). x - 1) (c .before .wide .ensures .0))
 
 pub count-child-spec : {M : Type 1} → statement M
 count-child-spec =
@@ -27,7 +22,6 @@ count-child-spec =
     (tie.spec
     (λ c. attaches-none _ (c .if1 .taken))  -- returns
     (λ c κs. search needs)  -- wide-requires
-    (λ c. search needs)  -- sub-i
     (λ c. search needs)  -- mul-count
     (λ c. search needs)  -- add-count
     (λ c. search needs)  -- mul-count-2
@@ -38,4 +32,4 @@ count-child-spec =
     (λ c. search needs)  -- mul-table-2
     slice-read-count  -- slice-write-table
     (λ c. search needs)  -- same-length
-    returns-2)
+    (λ c. attaches-set _ (c .before .before .if1 .left) (c .before .wide .ensures .0)))  -- returns-2

@@ -39,7 +39,7 @@ put-item-requires c κs =
 
 returns-2 : tie.Need-returns-2 Inv-loop μ-loop
 returns-2 c =
-    let p = c .before .before .before .before in
+    let p = c .before .before .before .before .before in
     let v = p .before .before .before .before .before in
     let w = v .before .before in
     let (n, q, k) = w .before .before .before .before .pre in
@@ -50,7 +50,7 @@ returns-2 c =
 fill-plain-requires : tie.Need-fill-plain-requires Inv-loop μ-loop
 fill-plain-requires c κs =
     let i = c .before .before .before in
-    let p = i .before .before .before .before in
+    let p = i .before .before .before .before .before in
     let v = p .before .before .before .before .before in
     let w = v .before .before in
     let (n, q, k) = w .before .before .before .before .pre in
@@ -62,7 +62,7 @@ fill-plain-requires c κs =
 loop-less : tie.Need-loop-less Inv-loop μ-loop
 loop-less c =
     let i = c .before .before .before .before .before .before .before .before in
-    let p = i .before .before .before .before in
+    let p = i .before .before .before .before .before in
     let v = p .before .before .before .before .before in
     let w = v .before .before in
     let (n, q, k) = w .before .before .before .before .pre in
@@ -75,7 +75,7 @@ loop-less c =
 loop-again : tie.Need-loop-again Inv-loop μ-loop
 loop-again c =
     let i = c .before .before .before .before .before .before .before .before in
-    let p = i .before .before .before .before in
+    let p = i .before .before .before .before .before in
     let v = p .before .before .before .before .before in
     let w = v .before .before in
     let (n, q, k) = w .before .before .before .before .pre in
@@ -100,12 +100,12 @@ fill-nodes-spec =
     returns
     put-item-requires
     -- same-length-2
-    (λ c. c .before .before .before .before .put-item .kept .0 ∙ c .before .before .before .before .before .before .before .before .before .before .before .before .loop .inv .2 .same)
+    (λ c. let p = c .before .before .before .before .before in p .put-item .kept .0 ∙ p .before .before .before .before .before .before .before .before .loop .inv .2 .same)
     returns-2
     -- the node's lists
     (λ c.
     let i = c .before .before .before in
-    let p = i .before .before .before .before in
+    let p = i .before .before .before .before .before in
     let v = p .before .before .before .before .before in
     let w = v .before .before in
     let (n, q, k) = w .before .before .before .before .pre in
@@ -117,7 +117,7 @@ fill-nodes-spec =
     -- the reader's lists
     (λ c.
     let i = c .before .before .before .before .before .before .before .before in
-    let p = i .before .before .before .before in
+    let p = i .before .before .before .before .before in
     let v = p .before .before .before .before .before in
     let w = v .before .before in
     let (n, q, k) = w .before .before .before .before .pre in

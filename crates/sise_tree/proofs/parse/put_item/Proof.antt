@@ -38,8 +38,7 @@ put-item-spec =
     (λ c. let (w₀, f, h, u) = c .before .before .before .before .before .before .before .before .pre in let z = atom-room h (c .before .before .before .before .before .item .given .1) u .1 in omega arith)
     (λ c. search needs)  -- enum-told
     put-start-requires
-    -- the two sums after a list's start
-    (λ c. let (w₀, f, h, u) = c .before .before .before .before .before .before .before .pre in let z = start-room h (c .before .before .before .before .enum-told .given .1) u .1 in omega arith)
+    -- the sum after a list's start
     (λ c. let (w₀, f, h, u) = c .before .before .before .before .before .before .before .pre in let z = start-room h (c .before .before .before .before .enum-told .given .1) u .1 in omega arith)
     (λ c. search needs)  -- enum-told-2
     close-list-requires

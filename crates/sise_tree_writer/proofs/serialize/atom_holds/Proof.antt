@@ -5,7 +5,7 @@ use mathlib.Core.Path.{sym, _∙_}
 use borrow.Author.Needs.{needs}
 use borrow.Author.Tests.{ne-eqb}
 use Rattle.sise_tree_writer.specs.Writing.{atomHoldsAt}
-use Rattle.sise_tree_writer.proofs.WalkAtoms.{atom-plain, atom-checked}
+use Rattle.sise_tree_writer.proofs.Atoms.{atom-plain, atom-checked}
 use Rattle.sise_tree_writer.proofs.serialize.atom_holds.Statement.{statement}
 use Rattle.sise_tree_writer.proofs.serialize.atom_holds.Tie as tie
 

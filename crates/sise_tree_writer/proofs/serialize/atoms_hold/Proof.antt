@@ -1,51 +1,22 @@
--- Before each turn the atoms from node i on decide as the whole tree does; each turn leaves a node less.
+-- Before each turn the atoms of the nodes before it hold; each turn leaves a node less.
 -- Assumes nothing.
-use Prim.Native.Nat.{_-_}
-use mathlib.Core.Path.{sym, _∙_}
+use Prim.Native.Nat.{_-_, _<_, _≤_}
+use native.Mathlib.Omega.{arith}
+use mathlib.Core.Path.{_≡_, sym, _∙_}
+use lib.Dec.{ltb, eqb}
 use lib.ListN.{length}
+use borrow.Author.Tests.{not-true, not-false, ltb-true, ltb-false}
+use Rattle.sise_tree.specs.Tree.{span}
+use Rattle.sise_tree_writer.proofs.Atoms.{Each, each-start, each-on, node-in, root-there, tree-all, tree-fails}
 use borrow.Author.Needs.{needs}
-use borrow.Author.Tests.{not-true, not-false}
-use Rattle.sise_tree_writer.proofs.Walk.{root-there}
-use Rattle.sise_tree_writer.proofs.WalkAtoms.{Checking, check-start, check-ready, check-on, check-fails, check-done}
 use Rattle.sise_tree_writer.proofs.serialize.atoms_hold.Statement.{statement}
 use Rattle.sise_tree_writer.proofs.serialize.atoms_hold.Tie as tie
 
 abbrev Inv-loop : tie.InvT-loop
-Inv-loop text table end i₀ i = Checking text table end i
+Inv-loop text table end i₀ i = (end ≡ span table 0) × Each text table 0 i
 
 abbrev μ-loop : tie.MeasureT-loop
 μ-loop text table end i₀ i = end - i
-
-shared-slice-read-wide : tie.Need-shared-slice-read-wide Inv-loop μ-loop
-shared-slice-read-wide c = let e = c .before .before .before in root-there (length (e .args .text .now)) (e .args .table .now) (e .pre)
-
-wide-requires : tie.Need-wide-requires Inv-loop μ-loop
-wide-requires c κs = search needs
-
-loop-holds : tie.Need-loop-holds Inv-loop μ-loop
-loop-holds c = check-start (c .wide .ensures .0) (c .before .before .before .before .pre)
-
-atom-holds-requires : tie.Need-atom-holds-requires Inv-loop μ-loop
-atom-holds-requires c κs = check-ready (c .before .loop .inv) (c .loop-test .taken)
-
-returns : tie.Need-returns Inv-loop μ-loop
-returns c n d =
-    let loop = c .before .before .before in
-    check-fails (loop .loop .inv) (c .before .before .loop-test .taken) (sym (c .before .atom-holds .ensures) ∙ not-true _ (c .if1 .taken)) d
-
-add-i : tie.Need-add-i Inv-loop μ-loop
-add-i c = search needs
-
-loop-less : tie.Need-loop-less Inv-loop μ-loop
-loop-less c = search needs
-
-loop-again : tie.Need-loop-again Inv-loop μ-loop
-loop-again c =
-    let loop = c .before .before .before in
-    check-on (loop .loop .inv) (c .before .before .loop-test .taken) (sym (c .before .atom-holds .ensures) ∙ not-false _ (c .if1 .left))
-
-returns-2 : tie.Need-returns-2 Inv-loop μ-loop
-returns-2 c n d = check-done (c .before .loop .inv) (c .loop-test .left) d
 
 pub atoms-hold-spec : {M : Type 1} → statement M
 atoms-hold-spec =
@@ -53,12 +24,12 @@ atoms-hold-spec =
     (tie.spec
     Inv-loop
     μ-loop
-    shared-slice-read-wide
-    wide-requires
-    loop-holds
-    atom-holds-requires
-    returns
-    add-i
-    loop-less
-    loop-again
-    returns-2)
+    (λ c. let st = c .before .before .before in root-there (st .args .text .now) (st .args .table .now) (st .pre))  -- shared-slice-read-wide
+    (λ c κs. search needs)  -- wide-requires
+    (λ c. (c .wide .ensures .0, each-start _ _))  -- loop-holds
+    (λ c κs. let st = c .before .before .before .before .before .before in node-in (st .args .text .now) (st .args .table .now) (st .pre) _ (let e = c .before .loop .inv .0 in omega (arith, c .loop-test .taken)))  -- atom-holds-requires
+    (λ c. let st = c .before .before .before .before .before .before .before .before in λ n d. tree-fails (st .args .text .now) (st .args .table .now) d _ (let e = c .before .before .before .loop .inv .0 in omega (arith, c .before .before .loop-test .taken)) (sym (c .before .atom-holds .ensures) ∙ not-true _ (c .if1 .taken)))  -- returns
+    (λ c. search needs)  -- add-i
+    (λ c. search needs)  -- loop-less
+    (λ c. (c .before .before .before .loop .inv .0, each-on _ _ (c .before .before .before .loop .inv .1) (sym (c .before .atom-holds .ensures) ∙ not-false _ (c .if1 .left))))  -- loop-again
+    (λ c. let st = c .before .before .before .before .before .before in λ n d. tree-all (st .args .text .now) (st .args .table .now) d (λ k g o. let e = c .before .loop .inv .0 in c .before .loop .inv .1 k g (omega (arith, c .loop-test .left)))))  -- returns-2

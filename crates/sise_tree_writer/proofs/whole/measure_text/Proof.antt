@@ -1,17 +1,24 @@
--- The record is a fresh one.
+-- The tree is measured, and then the finish behind it.
 -- Assumes nothing.
+use mathlib.Core.Path.{refl, ap, sym, _∙_}
+use Rattle.sise_serializer.specs.Serializer.{style, answerAs, freshSerializer}
+use Rattle.sise_tree_writer.specs.Answers.{putAs}
+use Rattle.sise_tree_writer.proofs.Measured.{not-at}
+use Rattle.sise_tree_writer.proofs.Walked.{not-put}
+use Rattle.sise_tree_writer.proofs.Finishing.{tree-sound, text-none, text-full, text-fits}
 use borrow.Author.Needs.{needs}
 use Rattle.sise_tree_writer.proofs.whole.measure_text.Statement.{statement}
 use Rattle.sise_tree_writer.proofs.whole.measure_text.Tie as tie
 
-new-requires : tie.Need-new-requires
-new-requires c κs = search needs
-
-measure-tree-requires : tie.Need-measure-tree-requires
-measure-tree-requires c κs = search needs
-
-returns : tie.Need-returns
-returns c b long = rw (c .before .new .ensures) at (c .measure-tree .ensures b long)
-
 pub measure-text-spec : {M : Type 1} → statement M
-measure-text-spec = tie.close (tie.spec new-requires measure-tree-requires returns)
+measure-text-spec =
+    tie.close
+    (tie.spec
+    (λ c κs. search needs)  -- new-requires
+    (λ c κs. search needs)  -- measure-tree-requires
+    (λ c. search needs)  -- enum-known-answer
+    (λ c. let a = c .before .before .before .before .before .before .before .args in let m = rw (c .before .before .new .ensures) at (c .before .measure-tree .ensures) in text-none (style (a .line-break .now) (a .indentation .now)) (a .room) freshSerializer (a .text .now) (a .table .now) (a .break-line-at) m (a .final-break) (λ o e. not-at (c .before .measure-tree .result .answer) (c .match .keys2) o e))  -- returns
+    (λ c κs. let a = c .before .before .before .before .before .before .before .before .before .before .args in let m = rw (c .before .before .before .before .before .new .ensures) at (c .before .before .before .before .measure-tree .ensures) in tree-sound (style (a .line-break .now) (a .indentation .now)) (a .room) freshSerializer (a .text .now) (a .table .now) (a .break-line-at) m (ap putAs (c .before .before .answer .given .1)))  -- plan-finish-requires
+    (λ c. search needs)  -- enum-told
+    (λ c. let a = c .before .before .before .before .before .before .before .before .before .before .before .before .args in let m = rw (c .before .before .before .before .before .before .before .new .ensures) at (c .before .before .before .before .before .before .measure-tree .ensures) in let (n, e) = not-put (c .before .plan-finish .result .answer) (c .match2 .keys2) in text-full (style (a .line-break .now) (a .indentation .now)) (a .room) freshSerializer (a .text .now) (a .table .now) (a .break-line-at) m (ap putAs (c .before .before .before .before .answer .given .1)) (a .final-break) (c .before .plan-finish .ensures) e (rw (c .before .before .before .before .before .before .before .new .ensures) refl))  -- returns-2
+    (λ c. let a = c .before .before .before .before .before .before .before .before .before .before .before .before .before .before .args in let m = rw (c .before .before .before .before .before .before .before .before .before .new .ensures) at (c .before .before .before .before .before .before .before .before .measure-tree .ensures) in text-fits (style (a .line-break .now) (a .indentation .now)) (a .room) freshSerializer (a .text .now) (a .table .now) (a .break-line-at) m (ap putAs (c .before .before .before .before .before .before .answer .given .1)) (a .final-break) (c .before .before .before .plan-finish .ensures) (ap answerAs (c .before .enum-told .given .1))))  -- returns-3

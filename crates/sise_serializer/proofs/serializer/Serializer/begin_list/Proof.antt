@@ -1,42 +1,20 @@
--- The step does it; the flags that it leaves are packed with what it hands back.
+-- An unsound record is refused; a sound one goes on to `open_list`.
 -- Assumes nothing.
-use lib.ListN.{length}
+use mathlib.Core.Path.{refl, sym, _∙_}
+use borrow.Author.Tests.{not-true, not-false}
+use Rattle.sise_serializer.specs.Calls.{beginListCall}
+use Rattle.sise_serializer.proofs.Does.{refused-does, unsound-call}
 use borrow.Author.Needs.{needs}
-use Rattle.sise_serializer.specs.Serializer.{style, beginList}
-use Rattle.sise_serializer.specs.Steps.{putItem}
-use Rattle.sise_serializer.specs.declared.serializer.Serializer.{Serializer}
-use Rattle.sise_serializer.proofs.Does.{step-does}
 use Rattle.sise_serializer.proofs.serializer.Serializer.begin_list.Statement.{statement}
 use Rattle.sise_serializer.proofs.serializer.Serializer.begin_list.Tie as tie
-
-progress-requires : tie.Need-progress-requires
-progress-requires c κs = search needs
-
-slice-aggregate-checked-item-step : tie.Need-slice-aggregate-checked-item-step
-slice-aggregate-checked-item-step c = search needs
-
-checked-item-step-requires : tie.Need-checked-item-step-requires
-checked-item-step-requires c κs = search needs
-
-pack-requires : tie.Need-pack-requires
-pack-requires c κs = search needs
-
-same-length : tie.Need-same-length
-same-length c = search needs
-
-returns : tie.Need-returns
-unfolding putItem
-returns c =
-    let a = c .before .before .before .before .before .before .before .before .before .before .before .before .args in
-    step-does (λ (w : Serializer). beginList (style (a .line-break .now) (a .indentation .now)) (length (a .buf .now)) w (a .break-line-at)) (c .before .before .before .before .before .before .before .progress .ensures) (c .before .before .before .checked-item-step .ensures) (c .pack .ensures .0) (c .pack .ensures .1)
 
 pub begin-list-spec : {M : Type 1} → statement M
 begin-list-spec =
     tie.close
     (tie.spec
-    progress-requires
-    slice-aggregate-checked-item-step
-    checked-item-step-requires
-    pack-requires
-    same-length
-    returns)
+    (λ c κs. search needs)  -- is-sound-requires
+    (λ c κs. search needs)  -- refused-requires
+    (λ c. let a = c .before .before .before .before .before .before .args in rw (unsound-call _ _ (a .self) (beginListCall (a .break-line-at)) (sym (c .before .before .is-sound .ensures) ∙ not-true _ (c .before .if1 .taken))) (refused-does (a .self) (a .buf .now) 11 (c .refused .ensures) refl))  -- returns
+    (λ c κs. sym (c .before .before .is-sound .ensures) ∙ not-false _ (c .before .if1 .left))  -- open-list-requires
+    (λ c. search needs)  -- same-length
+    (λ c. search needs))  -- returns-2

@@ -1,32 +1,20 @@
--- The step does it; the flags that it leaves are packed with what it hands back.
+-- An unsound record is refused; a sound one goes on to `finish_text`.
 -- Assumes nothing.
-use lib.ListN.{length}
+use mathlib.Core.Path.{refl, sym, _∙_}
+use borrow.Author.Tests.{not-true, not-false}
+use Rattle.sise_serializer.specs.Calls.{finishCall}
+use Rattle.sise_serializer.proofs.Does.{refused-does, unsound-call}
 use borrow.Author.Needs.{needs}
-use Rattle.sise_serializer.specs.Serializer.{style, finishWriting}
-use Rattle.sise_serializer.specs.declared.serializer.Serializer.{Serializer}
-use Rattle.sise_serializer.proofs.Does.{step-does}
 use Rattle.sise_serializer.proofs.serializer.Serializer.finish.Statement.{statement}
 use Rattle.sise_serializer.proofs.serializer.Serializer.finish.Tie as tie
 
-progress-requires : tie.Need-progress-requires
-progress-requires c κs = search needs
-
-checked-finish-step-requires : tie.Need-checked-finish-step-requires
-checked-finish-step-requires c κs = search needs
-
-pack-requires : tie.Need-pack-requires
-pack-requires c κs = search needs
-
-same-length : tie.Need-same-length
-same-length c = search needs
-
-returns : tie.Need-returns
-returns c =
-    let st = c .before .before .before in
-    let pr = st .before .before .before in
-    let a = pr .before .before .before .before .before .args in
-    step-does (λ (w : Serializer). finishWriting (style (a .line-break .now) (a .indentation .now)) (length (a .buf .now)) w (a .insert-line-break)) (pr .progress .ensures) (st .checked-finish-step .ensures) (c .pack .ensures .0) (c .pack .ensures .1)
-
 pub finish-spec : {M : Type 1} → statement M
 finish-spec =
-    tie.close (tie.spec progress-requires checked-finish-step-requires pack-requires same-length returns)
+    tie.close
+    (tie.spec
+    (λ c κs. search needs)  -- is-sound-requires
+    (λ c κs. search needs)  -- refused-requires
+    (λ c. let a = c .before .before .before .before .before .before .args in rw (unsound-call _ _ (a .self) (finishCall (a .insert-line-break)) (sym (c .before .before .is-sound .ensures) ∙ not-true _ (c .before .if1 .taken))) (refused-does (a .self) (a .buf .now) 11 (c .refused .ensures) refl))  -- returns
+    (λ c κs. sym (c .before .before .is-sound .ensures) ∙ not-false _ (c .before .if1 .left))  -- finish-text-requires
+    (λ c. search needs)  -- same-length
+    (λ c. c .before .before .finish-text .ensures))  -- returns-2

@@ -1,0 +1,23 @@
+-- The three cases of the definition.
+-- Assumes nothing.
+use native.Mathlib.Omega.{arith}
+use mathlib.Core.Path.{_∙_}
+use Rattle.sise_serializer.proofs.Bytes.{pasted-one, pasted-if}
+use Rattle.sise_tree_writer.specs.Planning.{turnToken}
+use borrow.Author.Needs.{needs}
+use Rattle.sise_tree_writer.proofs.walk.write_token.Statement.{statement}
+use Rattle.sise_tree_writer.proofs.walk.write_token.Tie as tie
+
+pub write-token-spec : {M : Type 1} → statement M
+write-token-spec =
+    tie.close
+    (tie.spec
+    (λ c. let room = rw (c .if1 .taken) at (c .before .before .before .pre) in omega arith)  -- slice-write-buf
+    (λ c. search needs)  -- same-length
+    (λ c. rw (c .if1 .taken) (pasted-one _ _ 41 (let room = rw (c .if1 .taken) at (c .before .before .before .pre) in omega arith)))  -- returns
+    (λ c. let room = rw (c .before .if1 .left, c .if2 .taken) at (c .before .before .before .before .pre) in omega arith)  -- slice-write-buf-2
+    (λ c. search needs)  -- same-length-2
+    (λ c. rw (c .before .if1 .left, c .if2 .taken) (pasted-one _ _ 40 (let room = rw (c .before .if1 .left, c .if2 .taken) at (c .before .before .before .before .pre) in omega arith)))  -- returns-2
+    (λ c κs. search needs)  -- paste-requires
+    (λ c. search needs)  -- same-length-3
+    (λ c. rw (c .before .before .before .before .before .if1 .left, c .before .before .before .before .if2 .left) (c .before .before .paste .ensures ∙ pasted-if _ _ _ (rw (c .before .before .before .before .before .if1 .left, c .before .before .before .before .if2 .left) at (c .before .before .before .before .before .before .before .before .pre)))))  -- returns-3
