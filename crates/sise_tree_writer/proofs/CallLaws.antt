@@ -6,7 +6,7 @@ use native.Mathlib.Omega.{arith}
 use mathlib.Core.Path.{_≡_, refl, sym, ap, _∙_}
 use mathlib.Core.Bool.{Bool, true, false, cond, false≢true}
 use mathlib.Core.List.{List, [], _∷_, _++_}
-use lib.Dec.{leb, ltb, eqb}
+use lib.Dec.{leb, eqb}
 use lib.ListN.{length, take, drop, length-append, length-drop}
 use borrow.Author.Tests.{leb-true, leb-false, lt-ltb, le-ltb, eqb-true}
 use Rattle.sise_util.specs.Atom.{isAtom, isAtomPrefix}
@@ -18,14 +18,14 @@ use Rattle.sise_serializer.specs.Serializer.{Style, Piece, Written, listsFit, i
 use Rattle.sise_serializer.specs.declared.serializer.Phase.{Phase}
 use Rattle.sise_serializer.specs.declared.serializer.Phase.the-variants.{Beginning}
 use Rattle.sise_serializer.specs.declared.serializer.Serializer.{Serializer}
-use Rattle.sise_serializer.specs.Calls.{Call, putAtomCall, beginListCall, endListCall, finishCall, isAccepted, step, run}
+use Rattle.sise_serializer.specs.Calls.{Call, putAtomCall, beginListCall, endListCall, finishCall, step, run}
 use Rattle.sise_serializer.proofs.Sound.{sound, writing-lists}
 use Rattle.sise_serializer.proofs.Kept.{sound-kept}
 use Rattle.sise_serializer.proofs.Verdicts.{Puts, atomAlone, atomInside, listFirst, listInside, listClosed, textEnded, Verdict, refuses, puts, verdict}
 use Rattle.sise_layout.proofs.Buffers.{pasted-length}
 use Rattle.sise_tree_writer.specs.SerializeTree.{fits}
 use Rattle.sise_tree_writer.specs.Planning.{itemCall, turnCall, turnLayout, turnToken}
-use Rattle.sise_tree_writer.specs.Walking.{writtenIf, after, firstAnswer}
+use Rattle.sise_tree_writer.specs.Walking.{writtenIf, after}
 
 -- a refusal is no acceptance
 no-offset : {A : Type 0} {n o : ℕ} → writer.Answer.refused n ≡ writer.Answer.accepted o → A

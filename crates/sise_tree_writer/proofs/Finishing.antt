@@ -6,7 +6,7 @@ use mathlib.Core.Path.{_≡_, refl, sym, ap, _∙_}
 use mathlib.Core.Bool.{Bool, true, false, _&&_, false≢true}
 use mathlib.Core.List.{List, [], _∷_, _++_}
 use lib.ListN.{length, replicate, length-replicate}
-use Rattle.sise_util.proofs.Ranges.{split, and-first, and-second, both}
+use Rattle.sise_util.proofs.Ranges.{split, and-first}
 use Rattle.sise_parser.specs.Reader.{partOf}
 use Rattle.sise_serializer.specs.Bytes.{pasted}
 use Rattle.sise_serializer.specs.Serializer as writer
@@ -17,8 +17,8 @@ use Rattle.sise_serializer.specs.Calls.{largest, Call, putAtomCall, beginListCa
 use Rattle.sise_tree.specs.Tree.{Node, atom, list}
 use Rattle.sise_tree.specs.Answers.{answered}
 use Rattle.sise_tree_writer.specs.Answers.{putAs}
-use Rattle.sise_tree_writer.specs.SerializeTree.{nodeCalls, rowCalls, treeCalls, fits, Writes, refuse, firstOffset, written, writeTree, serializeTree, DoesMeasure}
-use Rattle.sise_tree_writer.specs.Writing.{textCalls, writeText, MeasuresTree}
+use Rattle.sise_tree_writer.specs.SerializeTree.{nodeCalls, rowCalls, treeCalls, fits, Writes, firstOffset, written, writeTree, serializeTree, DoesMeasure}
+use Rattle.sise_tree_writer.specs.Writing.{textCalls, MeasuresTree}
 use Rattle.sise_tree_writer.specs.Planning.{Plans}
 use Rattle.sise_tree_writer.specs.Walking.{after, firstAnswer, Finds, all, off, finished}
 use Rattle.sise_tree_writer.specs.declared.walk.Walked.{Walked}

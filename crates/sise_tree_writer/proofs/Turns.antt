@@ -8,14 +8,14 @@ use mathlib.Core.Bool.{Bool, true, false, cond, false≢true}
 use mathlib.Core.List.{List, [], _∷_, _++_, append-assoc}
 use lib.Dec.{ltb, eqb}
 use lib.ListN.{length}
-use borrow.Author.Tests.{eqb-true, eqb-false, eq-eqb, ne-eqb, lt-ltb, le-ltb}
+use borrow.Author.Tests.{eqb-true, eqb-false, eq-eqb, ne-eqb, lt-ltb}
 use Rattle.sise_util.proofs.Ranges.{split}
 use Rattle.sise_parser.specs.Reader.{partOf}
 use Rattle.sise_serializer.specs.Calls.{largest, Call, putAtomCall, beginListCall, endListCall}
 use Rattle.sise_tree.specs.Tree.{Node, atom, list, Nodes, empty, _then_, size, sizes, tableAt, kind, first, second, span}
 use Rattle.sise_tree.proofs.TreeLaws.{size-pos, holds-words}
 use Rattle.sise_tree.proofs.LocalLaws.{stands, Held}
-use Rattle.sise_tree.proofs.WalkLaws.{Rest, Around, Walk, walk-root, walk-atom, walk-list, walk-close, walk-ends, walk-within}
+use Rattle.sise_tree.proofs.WalkLaws.{Around, Walk, walk-root, walk-atom, walk-list, walk-close, walk-ends, walk-within}
 use Rattle.sise_tree_writer.specs.SerializeTree.{nodeCalls, rowCalls, treeCalls}
 use Rattle.sise_tree_writer.specs.Planning.{itemCall, turnCall}
 use Rattle.sise_tree_writer.specs.Walking.{opensAt, atomAt, Passable, passed}
@@ -77,7 +77,7 @@ module _ (words text : List ℕ) (t : ℕ) where
   here : {i cur : ℕ} {closes : Bool} → closes ≡ false → 4 * (i + 1) ≤ length words → Passable words i cur closes
   here k le = record { there = λ e. le; listed = λ e. absurd (false≢true (sym k ∙ e)); away = λ e f. absurd (false≢true (sym k ∙ e)) }
 
-  module _ (i cur end : ℕ) (begins : Bool) (rest : List Call) (closes isList : Bool) (told : closes ≡ eqb i end) (opens : isList ≡ opensAt words i closes) where
+  module _ (i cur end : ℕ) (begins : Bool) (rest : List Call) (closes isList : Bool) (ends : closes ≡ eqb i end) (opens : isList ≡ opensAt words i closes) where
     -- not closing, the node's kind decides
     as-list : closes ≡ false → kind words i ≡ 0 → isList ≡ true
     as-list k z = opens ∙ rw k (eq-eqb _ _ z)
@@ -89,7 +89,7 @@ module _ (words text : List ℕ) (t : ℕ) where
 
     module _ (zi : i ≡ 0) (zl : cur ≡ 0) (ze : end ≡ span words 0) (zb : begins ≡ false) where
       not-closing : {n : Node} → Held (length text) words n → closes ≡ false
-      not-closing {n} h = told ∙ ne-eqb i end (λ (e : i ≡ end). omega (arith, ze, h .spans, size-pos n))
+      not-closing {n} h = ends ∙ ne-eqb i end (λ (e : i ≡ end). omega (arith, ze, h .spans, size-pos n))
 
       root-turn : (n : Node) → Held (length text) words n → rest ≡ treeCalls text t n → Turn words text t i cur end begins rest closes isList
       unfolding passed nodeCalls tableAt size pending
@@ -127,7 +127,7 @@ module _ (words text : List ℕ) (t : ℕ) where
       close-turn : (c : Nodes) (o : List Nodes) → Walk words cur i c o → rest ≡ pending text (cond begins largest t) t c o → closes ≡ true → Turn words text t i cur end begins rest closes isList
       unfolding passed pending rowCalls Around
       close-turn c [] w q k =
-          let z = eqb-true i end (sym told ∙ k) in
+          let z = eqb-true i end (sym ends ∙ k) in
           let none = walk-ends words c [] w (z ∙ ze) in
           let r = w .rest in
           let last : cur ≡ 0 = w .around in
@@ -140,7 +140,7 @@ module _ (words text : List ℕ) (t : ℕ) where
             within = λ e. absurd (false≢true (sym e ∙ k));
           }
       close-turn c (d ∷ o) w q k =
-          let z = eqb-true i end (sym told ∙ k) in
+          let z = eqb-true i end (sym ends ∙ k) in
           let none = walk-ends words c (d ∷ o) w (z ∙ ze) in
           let r = w .rest in
           let child = w .around .0 in
@@ -157,7 +157,7 @@ module _ (words text : List ℕ) (t : ℕ) where
       -- a node of it is due
       node-turn : (c : Nodes) (o : List Nodes) → Walk words cur i c o → rest ≡ pending text (cond begins largest t) t c o → closes ≡ false → Turn words text t i cur end begins rest closes isList
       unfolding passed sizes size
-      node-turn empty o w q k = absurd (eqb-false i end (sym told ∙ k) (omega (arith, ze, w .rest .stop)))
+      node-turn empty o w q k = absurd (eqb-false i end (sym ends ∙ k) (omega (arith, ze, w .rest .stop)))
       node-turn (atom p m then c) o w q k =
           let s = walk-atom words p m c o w in
           let l = as-atom k (s .kinds) in

@@ -13,10 +13,9 @@ use types.Run.{OneOf}
 use denote.Enum.Declared.{tagOf}
 use Rattle.sise_util.specs.Atom.{isAtom}
 use Rattle.sise_util.proofs.Ranges.{split}
-use Rattle.sise_parser.specs.Reader.{partOf}
 use Rattle.sise_serializer.specs.Serializer as writer
 use Rattle.sise_serializer.specs.Serializer.{Style, answerAs, isSound}
-use Rattle.sise_serializer.specs.Calls.{largest, Call, putAtomCall, beginListCall, endListCall, step, run}
+use Rattle.sise_serializer.specs.Calls.{largest, Call, step, run}
 use Rattle.sise_serializer.specs.declared.serializer.Serializer.{Serializer}
 use Rattle.sise_serializer.specs.declared.serializer.Put.{Put}
 use Rattle.sise_serializer.specs.declared.serializer.Put.the-variants as put
@@ -24,14 +23,13 @@ use Rattle.sise_serializer.specs.declared.serializer.Wrote.{Wrote}
 use Rattle.sise_serializer.proofs.Kept.{sound-kept}
 use Rattle.sise_serializer.proofs.Running.{no-zero}
 use Rattle.sise_serializer.proofs.serializer.Put as puts
-use Rattle.sise_tree.specs.Tree.{Node, kind, first, second, span}
+use Rattle.sise_tree.specs.Tree.{Node, kind, span}
 use Rattle.sise_tree.specs.Decision.{decide}
-use Rattle.sise_tree.proofs.LocalLaws.{held, holds-here}
+use Rattle.sise_tree.proofs.LocalLaws.{held}
 use Rattle.sise_tree_writer.specs.SerializeTree.{treeCalls, fits}
 use Rattle.sise_tree_writer.specs.Writing.{Checked}
 use Rattle.sise_tree_writer.specs.Planning.{Plans, itemCall, turnCall, turnLayout, turnToken}
-use Rattle.sise_tree_writer.specs.Walking.{opensAt, atomAt, AtomIn, Writable, writtenIf, Passable, passed, after, firstAnswer, Finds, all, off, Walkable, Walks}
-use Rattle.sise_tree_writer.specs.declared.walk.Walked.{Walked}
+use Rattle.sise_tree_writer.specs.Walking.{opensAt, atomAt, AtomIn, Writable, writtenIf, Passable, passed, after, firstAnswer, Finds, all, off, Walkable}
 use Rattle.sise_tree_writer.specs.declared.walk.Walked.the-variants.{Fits, Refused}
 use Rattle.sise_tree_writer.proofs.Atoms.{atom-in, atom-good}
 use Rattle.sise_tree_writer.proofs.CallLaws.{fits-off, turn-shape, lists-after, accepted-lists, closed-list, Same, same-start, same-on}
@@ -87,9 +85,9 @@ module _ {s : Style} {text words : List ℕ} {t : ℕ} {writes : Bool} {room : �
   the-tree : {n : Node} → decide (length text) words ≡ some n → h .tree ≡ n
   the-tree d = Option·some-injective _ _ (sym (h .decided) ∙ d)
 
-  module _ (more : left ≡ true) {closes isList : Bool} (told : closes ≡ eqb i end) (opens : isList ≡ opensAt words i closes) where
+  module _ (more : left ≡ true) {closes isList : Bool} (ends : closes ≡ eqb i end) (opens : isList ≡ opensAt words i closes) where
     abbrev made : Turn words text t i cur end begins (h .rest) closes isList
-    made = turn words text t i cur end begins (h .rest) closes isList told opens (h .at) more
+    made = turn words text t i cur end begins (h .rest) closes isList ends opens (h .at) more
 
     pub turn-there : closes ≡ false → 4 * (i + 1) ≤ length words
     turn-there k = made .passable .there k

@@ -1,6 +1,5 @@
 -- The two cases of `cond`.
 -- Assumes nothing.
-use borrow.Author.Needs.{needs}
 use Rattle.sise_tree_writer.proofs.plan.break_len.Statement.{statement}
 use Rattle.sise_tree_writer.proofs.plan.break_len.Tie as tie
 

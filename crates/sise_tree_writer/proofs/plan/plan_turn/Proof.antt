@@ -1,7 +1,6 @@
 -- The two cases of `cond` in the definition.
 -- Assumes nothing.
 use Rattle.sise_tree_writer.specs.Planning.{turnCall}
-use borrow.Author.Needs.{needs}
 use Rattle.sise_tree_writer.proofs.plan.plan_turn.Statement.{statement}
 use Rattle.sise_tree_writer.proofs.plan.plan_turn.Tie as tie
 

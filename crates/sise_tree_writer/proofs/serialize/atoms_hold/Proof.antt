@@ -1,11 +1,9 @@
 -- Before each turn the atoms of the nodes before it hold; each turn leaves a node less.
 -- Assumes nothing.
-use Prim.Native.Nat.{_-_, _<_, _≤_}
+use Prim.Native.Nat.{_-_}
 use native.Mathlib.Omega.{arith}
 use mathlib.Core.Path.{_≡_, sym, _∙_}
-use lib.Dec.{ltb, eqb}
-use lib.ListN.{length}
-use borrow.Author.Tests.{not-true, not-false, ltb-true, ltb-false}
+use borrow.Author.Tests.{not-true, not-false}
 use Rattle.sise_tree.specs.Tree.{span}
 use Rattle.sise_tree_writer.proofs.Atoms.{Each, each-start, each-on, node-in, root-there, tree-all, tree-fails}
 use borrow.Author.Needs.{needs}

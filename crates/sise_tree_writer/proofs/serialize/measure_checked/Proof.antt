@@ -1,6 +1,5 @@
 -- What a walk finds in so many bytes is what holds of a buffer of so many bytes.
 -- Assumes nothing.
-use mathlib.Core.Path.{sym}
 use mathlib.Core.Bool.{false≢true}
 use Rattle.sise_tree_writer.proofs.Measured.{node-checked, found-fits, found-off}
 use borrow.Author.Needs.{needs}

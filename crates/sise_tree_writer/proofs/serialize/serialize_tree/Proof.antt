@@ -1,7 +1,6 @@
 -- Record and answer are those that were measured. An answer says that all calls fit, and they are written; a refusal leaves the buffer.
 -- Assumes nothing.
 use mathlib.Core.Path.{refl, sym, ap, _∙_}
-use mathlib.Core.Bool.{true, cond}
 use mathlib.Core.Option.{Option·some-injective}
 use Rattle.sise_serializer.specs.Serializer.{style}
 use Rattle.sise_tree_writer.specs.Answers.{putAs}

@@ -1,7 +1,6 @@
 -- By the test of the code.
 -- Assumes nothing.
 use borrow.Author.Tests.{eq-eqb, ne-eqb}
-use borrow.Author.Needs.{needs}
 use Rattle.sise_tree_writer.proofs.walk.first_offset.Statement.{statement}
 use Rattle.sise_tree_writer.proofs.walk.first_offset.Tie as tie
 

@@ -1,6 +1,5 @@
 -- The two cases of `cond`; a node that is due is in the table.
 -- Assumes nothing.
-use native.Mathlib.Omega.{arith}
 use borrow.Author.Needs.{needs}
 use Rattle.sise_tree_writer.proofs.walk.opens_list.Statement.{statement}
 use Rattle.sise_tree_writer.proofs.walk.opens_list.Tie as tie

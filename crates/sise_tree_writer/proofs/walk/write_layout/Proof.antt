@@ -4,7 +4,6 @@ use native.Mathlib.Omega.{arith}
 use mathlib.Core.Path.{sym, _∙_}
 use borrow.Author.Tests.{lt-ltb, le-ltb}
 use Rattle.sise_serializer.proofs.Bytes.{pasted-one, pasted-none, pasted-if}
-use Rattle.sise_tree_writer.specs.Planning.{turnLayout}
 use borrow.Author.Needs.{needs}
 use Rattle.sise_tree_writer.proofs.walk.write_layout.Statement.{statement}
 use Rattle.sise_tree_writer.proofs.walk.write_layout.Tie as tie

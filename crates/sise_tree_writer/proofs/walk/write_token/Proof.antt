@@ -3,7 +3,6 @@
 use native.Mathlib.Omega.{arith}
 use mathlib.Core.Path.{_∙_}
 use Rattle.sise_serializer.proofs.Bytes.{pasted-one, pasted-if}
-use Rattle.sise_tree_writer.specs.Planning.{turnToken}
 use borrow.Author.Needs.{needs}
 use Rattle.sise_tree_writer.proofs.walk.write_token.Statement.{statement}
 use Rattle.sise_tree_writer.proofs.walk.write_token.Tie as tie

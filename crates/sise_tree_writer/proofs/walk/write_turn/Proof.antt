@@ -1,7 +1,6 @@
 -- Nothing, or the layout and the token behind it.
 -- Assumes nothing.
 use native.Mathlib.Omega.{arith}
-use mathlib.Core.Path.{_∙_}
 use borrow.Author.Tests.{not-true, not-false}
 use Rattle.sise_serializer.proofs.Bytes.{pasted-behind}
 use borrow.Author.Needs.{needs}

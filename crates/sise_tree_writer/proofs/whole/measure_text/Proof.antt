@@ -1,6 +1,6 @@
 -- The tree is measured, and then the finish behind it.
 -- Assumes nothing.
-use mathlib.Core.Path.{refl, ap, sym, _∙_}
+use mathlib.Core.Path.{refl, ap}
 use Rattle.sise_serializer.specs.Serializer.{style, answerAs, freshSerializer}
 use Rattle.sise_tree_writer.specs.Answers.{putAs}
 use Rattle.sise_tree_writer.proofs.Measured.{not-at}
