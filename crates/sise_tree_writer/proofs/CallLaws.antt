@@ -24,12 +24,8 @@ use Rattle.sise_serializer.proofs.Kept.{sound-kept}
 use Rattle.sise_serializer.proofs.Verdicts.{Puts, atomAlone, atomInside, listFirst, listInside, listClosed, textEnded, Verdict, refuses, puts, verdict}
 use Rattle.sise_layout.proofs.Buffers.{pasted-length}
 use Rattle.sise_tree_writer.specs.SerializeTree.{fits}
-use Rattle.sise_tree_writer.specs.Planning.{itemCall, turnCall, turnLayout, turnToken}
-use Rattle.sise_tree_writer.specs.Walking.{writtenIf, after}
-
--- a refusal is no acceptance
-no-offset : {A : Type 0} {n o : ℕ} → writer.Answer.refused n ≡ writer.Answer.accepted o → A
-no-offset {n = n} {o} e = let z : _≡_ {A = ℕ} 0 1 = cc in absurd (omega arith)
+use Rattle.sise_tree_writer.specs.Walking.{after}
+use Rattle.sise_tree_writer.proofs.Made.{no-offset}
 
 -- an atom that was checked where it lies is one
 pub checked-atom : (text : List ℕ) (p m : ℕ) → isAtomPrefix (drop p text) m ≡ true → isAtom (partOf text p m) ≡ true
@@ -129,67 +125,11 @@ module _ (s : Style) (room : ℕ) (w : Serializer) (h : isSound w ≡ true) wher
   pub closed-list : {o : ℕ} → step s room w endListCall .answer ≡ writer.Answer.accepted o → 0 < w .lists
   closed-list e = closed-some (step s room w endListCall) (verdict s room w endListCall) e
 
--- ---- the bytes of a turn, by the records before and after it
-
-module _ (s : Style) (w : Serializer) (closes : Bool) where
-  layout-none : {breaks at : ℕ} → breaks ≡ w .breaks → at ≡ w .position → [] ≡ turnLayout s w breaks at closes
-  layout-none b a = rw (b, a, le-ltb (w .breaks) (w .breaks) (omega arith), le-ltb (w .position) (w .position) (omega arith))
-
-  layout-space : {breaks at : ℕ} → breaks ≡ w .breaks → at ≡ w .position + 1 → 32 ∷ [] ≡ turnLayout s w breaks at closes
-  layout-space b a = rw (b, a, le-ltb (w .breaks) (w .breaks) (omega arith), lt-ltb (w .position) (w .position + 1) (omega arith))
-
-  layout-line : {breaks : ℕ} (at : ℕ) → breaks ≡ w .breaks + 1 → newLineOf s (cond closes (w .lists - 1) (w .lists)) ≡ turnLayout s w breaks at closes
-  layout-line at b = rw (b, lt-ltb (w .breaks) (w .breaks + 1) (omega arith))
-
--- a piece's layout and token are a turn's
-record Shaped (s : Style) (w : Serializer) (closes : Bool) (a : List ℕ) (isList : Bool) (p : Piece) : Type 0 where
-  layout : p .layout ≡ turnLayout s w (p .after .breaks) (w .position + length (p .layout)) closes
-  token : p .token ≡ turnToken closes a isList
-
-module _ (s : Style) (w : Serializer) where
-  inner-shaped : (a token : List ℕ) (isList : Bool) (g : Gap) → token ≡ turnToken false a isList → Shaped s w false a isList (innerAs s w token isList g)
-  unfolding innerAs laid
-  inner-shaped a token isList newLine e = record { layout = layout-line s w false (w .position + length (newLineOf s (w .lists))) refl; token = e }
-  inner-shaped a token isList nothing e = record { layout = layout-none s w false refl (add-zero (w .position)); token = e }
-  inner-shaped a token isList space e = record { layout = layout-space s w false refl refl; token = e }
-
-  close-shaped : (a : List ℕ) (isList b : Bool) → Shaped s w true a isList (closeAs s w b)
-  unfolding closeAs
-  close-shaped a isList true = record { layout = layout-line s w true (w .position + length (newLineOf s (w .lists - 1))) refl; token = refl }
-  close-shaped a isList false = record { layout = layout-none s w true refl (add-zero (w .position)); token = refl }
-
-  turn-shaped : (closes : Bool) (a : List ℕ) (isList : Bool) (t : ℕ) (p : Piece) → Puts s w (turnCall closes a isList t) p → Shaped s w closes a isList p
-  unfolding turnCall itemCall inner close firstAtom firstList
-  turn-shaped true a isList t p (listClosed e) = close-shaped a isList (eqb (w .broken) (w .lists))
-  turn-shaped false a true t p (listFirst e) = record { layout = layout-none s w false refl (add-zero (w .position)); token = refl }
-  turn-shaped false a true t p (listInside e) = inner-shaped a (40 ∷ []) true (gapAt w t) refl
-  turn-shaped false a false t p (atomAlone e f) = record { layout = layout-none s w false refl (add-zero (w .position)); token = refl }
-  turn-shaped false a false t p (atomInside e f) = inner-shaped a a false (gapAt w t) refl
-
--- what an accepted turn writes
-pub record Shape (s : Style) (room : ℕ) (w : Serializer) (closes : Bool) (a : List ℕ) (isList : Bool) (r : Written) (at : ℕ) : Type 0 where
-  pub bytes : r .bytes ≡ turnLayout s w (r .serializer .breaks) at closes ++ turnToken closes a isList
-  pub offset : at ≡ w .position + length (turnLayout s w (r .serializer .breaks) at closes)
-  pub within : w .position + length (turnLayout s w (r .serializer .breaks) at closes) + length (turnToken closes a isList) ≤ room
-
-shape-of : (s : Style) (room : ℕ) (w : Serializer) (closes : Bool) (a : List ℕ) (isList : Bool) (t : ℕ) (r : Written) {at : ℕ} → Verdict s room w (turnCall closes a isList t) r
-    → r .answer ≡ writer.Answer.accepted at → Shape s room w closes a isList r at
-shape-of s room w closes a isList t r (refuses n u) e = no-offset e
-shape-of s room w closes a isList t r {at} (puts p q f) e =
-    let z : w .position + length (p .layout) ≡ at = cc in
-    let k = turn-shaped s w closes a isList t p q in
-    let l : p .layout ≡ turnLayout s w (p .after .breaks) at closes = k .layout ∙ ap (λ (n : ℕ). turnLayout s w (p .after .breaks) n closes) z in
-    record {
-      bytes = rw (← l, ← (k .token)) refl;
-      offset = sym z ∙ ap (λ (x : List ℕ). w .position + length x) l;
-      within = let x = ap length l in let y = ap length (k .token) in omega arith;
-    }
-
-pub turn-shape : (s : Style) (room : ℕ) (w : Serializer) (closes : Bool) (a : List ℕ) (isList : Bool) (t : ℕ) {at : ℕ}
-    → step s room w (turnCall closes a isList t) .answer ≡ writer.Answer.accepted at → Shape s room w closes a isList (step s room w (turnCall closes a isList t)) at
-turn-shape s room w closes a isList t e = shape-of s room w closes a isList t (step s room w (turnCall closes a isList t)) (verdict s room w (turnCall closes a isList t)) e
-
 -- ---- what is left of the calls
+
+-- bytes written, or not
+abbrev pub writtenIf : Bool → List ℕ → ℕ → List ℕ → List ℕ
+writtenIf writes before at bytes = cond writes (pasted before at bytes) before
 
 -- the calls cs, from the record w and the buffer b, do as the whole, cs₀ from w₀ and b₀, does
 pub record Same (s : Style) (writes : Bool) (room : ℕ) (b₀ : List ℕ) (w₀ : Serializer) (cs₀ : List Call) (b : List ℕ) (w : Serializer) (cs : List Call) : Type 0 where

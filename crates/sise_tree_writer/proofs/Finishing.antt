@@ -1,16 +1,18 @@
 -- A tree's calls and a finish behind them: they fit if the tree's do and the finish then does, and what they write is written one after the other.
 -- Assumes nothing.
-use Prim.Native.Nat.{ℕ, _+_}
+use Prim.Native.Nat.{ℕ, _+_, _≤_}
 use native.Mathlib.Omega.{arith}
 use mathlib.Core.Path.{_≡_, refl, sym, ap, _∙_}
 use mathlib.Core.Bool.{Bool, true, false, _&&_, false≢true}
-use mathlib.Core.List.{List, [], _∷_, _++_}
+use mathlib.Core.List.{List, [], _∷_, _++_, append-nil}
 use lib.ListN.{length, replicate, length-replicate}
-use Rattle.sise_util.proofs.Ranges.{split, and-first}
+use Rattle.sise_util.proofs.Ranges.{split, and-first, and-second}
 use Rattle.sise_parser.specs.Reader.{partOf}
 use Rattle.sise_serializer.specs.Bytes.{pasted}
 use Rattle.sise_serializer.specs.Serializer as writer
-use Rattle.sise_serializer.specs.Serializer.{Style, answerAs, isSound}
+use Rattle.sise_serializer.specs.Serializer.{Style, Piece, answerAs, isSound, last}
+use Rattle.sise_serializer.specs.Parts.{breakBytes}
+use Rattle.sise_serializer.proofs.Verdicts.{Puts, textEnded}
 use Rattle.sise_serializer.specs.declared.serializer.Serializer.{Serializer}
 use Rattle.sise_serializer.specs.declared.serializer.Wrote.{Wrote}
 use Rattle.sise_serializer.specs.Calls.{largest, Call, putAtomCall, beginListCall, endListCall, finishCall, isAccepted, step, run}
@@ -20,10 +22,10 @@ use Rattle.sise_tree_writer.specs.Answers.{putAs}
 use Rattle.sise_tree_writer.specs.SerializeTree.{nodeCalls, rowCalls, treeCalls, fits, Writes, firstOffset, written, writeTree, serializeTree, DoesMeasure}
 use Rattle.sise_tree_writer.specs.Writing.{textCalls, MeasuresTree}
 use Rattle.sise_tree_writer.specs.Planning.{Plans}
-use Rattle.sise_tree_writer.specs.Walking.{after, firstAnswer, Finds, all, off, finished}
-use Rattle.sise_tree_writer.specs.declared.walk.Walked.{Walked}
+use Rattle.sise_tree_writer.specs.Walking.{after, firstAnswer}
 use Rattle.sise_tree_writer.specs.declared.serialize.PutTree.the-variants.{At, NoRoom}
 use Rattle.sise_tree_writer.specs.declared.serialize.TreeWrote.{TreeWrote}
+use Rattle.sise_tree_writer.proofs.Made.{Made, made}
 use Rattle.sise_tree_writer.proofs.CallLaws.{fits-first, accepted-keeps, run-after, after-sound}
 use Rattle.sise_tree_writer.proofs.Measured.{refused-measures, Tested, fails, passes, tested, first-offset, offset-first, written-on, written-off, fits-measures, Accepted, tree-accepted}
 
@@ -170,8 +172,30 @@ pub text-tree : (s : Style) (room : ℕ) (w : Serializer) (text : List ℕ) (t :
 unfolding textCalls
 text-tree s room w text t wished n f = and-first (fits s room w (treeCalls text t n)) _ (sym (fits-more s room (finishCall wished) w (treeCalls text t n)) ∙ f)
 
+-- an accepted answer has an offset
+accepted-as : (a : writer.Answer) → isAccepted a ≡ true → (o : ℕ) × (a ≡ writer.Answer.accepted o)
+accepted-as (writer.Answer.accepted o) e = (o, refl)
+accepted-as (writer.Answer.refused n) e = absurd (false≢true e)
+
 -- the tree written, and the finish behind it
-pub text-written : (s : Style) (b : List ℕ) (w : Serializer) (cs : List Call) (wished : Bool) {m : Walked} {mid now : List ℕ} → fits s (length b) w cs ≡ true → Finds s (length b) w cs m
-    → mid ≡ run s b w cs .buffer → now ≡ finished s m mid wished → now ≡ run s b w (cs ++ finishCall wished ∷ []) .buffer
-text-written s b w cs wished f (all y a) e q = q ∙ rw (e, run-long s w cs b f) (sym (run-more s w cs (finishCall wished) b f))
-text-written s b w cs wished f (off y) e q = absurd (false≢true (sym y ∙ f))
+module _ (s : Style) (b : List ℕ) (w : Serializer) (cs : List Call) (wished : Bool) (f : fits s (length b) w (cs ++ finishCall wished ∷ []) ≡ true) where
+  last-made : Made s (length b) (after s (length b) w cs) (finishCall wished) (step s (length b) (after s (length b) w cs) (finishCall wished))
+  last-made =
+      let e = sym (fits-more s (length b) (finishCall wished) w cs) ∙ f in
+      let (o, k) = accepted-as (step s (length b) (after s (length b) w cs) (finishCall wished) .answer) (and-second (fits s (length b) w cs) _ e) in
+      made s (length b) (after s (length b) w cs) (finishCall wished) k
+
+  last-piece : {v : Serializer} {p : Piece} → Puts s v (finishCall wished) p → p ≡ last s v wished
+  last-piece (textEnded e) = refl
+
+  -- the line break, if wished, has room there
+  pub text-room : after s (length b) w cs .position + length (breakBytes wished (s .lineBreak)) ≤ length b
+  unfolding last
+  text-room = let k = rw (last-piece (last-made .its)) at (last-made .within) in omega arith
+
+  pub text-written : {mid now : List ℕ} {at : ℕ} → at ≡ after s (length b) w cs .position → mid ≡ run s b w cs .buffer
+      → now ≡ pasted mid at (breakBytes wished (s .lineBreak)) → now ≡ run s b w (cs ++ finishCall wished ∷ []) .buffer
+  unfolding last
+  text-written z e q =
+      let k = and-first (fits s (length b) w cs) _ (sym (fits-more s (length b) (finishCall wished) w cs) ∙ f) in
+      q ∙ rw (z, e) (sym (run-more s w cs (finishCall wished) b k ∙ rw (last-made .is, last-piece (last-made .its)) (ap (pasted (run s b w cs .buffer) (after s (length b) w cs .position)) (append-nil _))))

@@ -1,4 +1,5 @@
 pub mod Planned
+pub mod Made
 pub mod CallLaws
 pub mod Atoms
 pub mod Turns

@@ -26,8 +26,8 @@ use Rattle.sise_tree_writer.specs.Answers.{putAs}
 use Rattle.sise_tree_writer.specs.SerializeTree.{atomsHold, fits, Writes, refuse, firstOffset, written, isOver, writeNode, writeTree, DoesMeasure}
 use Rattle.sise_tree_writer.specs.Writing.{Checked}
 use Rattle.sise_tree_writer.specs.Walking.{after, firstAnswer, Finds, all, off}
-use Rattle.sise_tree_writer.specs.declared.walk.Walked.{Walked}
-use Rattle.sise_tree_writer.specs.declared.walk.Walked.the-variants.{Fits, Refused}
+use Rattle.sise_tree_writer.specs.declared.measure.Walked.{Walked}
+use Rattle.sise_tree_writer.specs.declared.measure.Walked.the-variants.{Fits, Refused}
 use Rattle.sise_tree_writer.specs.declared.serialize.PutTree.{PutTree}
 use Rattle.sise_tree_writer.specs.declared.serialize.PutTree.the-variants.{At, TextTooLong, UnsoundRecord, NotATree, InvalidAtom, WritingFinished, NoRoom}
 use Rattle.sise_tree_writer.specs.declared.serialize.TreeWrote.{TreeWrote}

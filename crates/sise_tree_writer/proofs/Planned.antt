@@ -20,7 +20,7 @@ use Rattle.sise_serializer.specs.declared.serializer.Put.the-variants as put
 use Rattle.sise_serializer.proofs.Spots.{found, not-found}
 use Rattle.sise_serializer.proofs.Does.{put-in, begin-in, new-line-is, in-line-is}
 use Rattle.sise_util.specs.Atom.{isAtom}
-use Rattle.sise_tree_writer.specs.Planning.{PlansAs, tokenOf, firstItem, itemCall}
+use Rattle.sise_tree_writer.specs.Planning.{PlansAs, tokenOf, firstItem, begunAt, itemCall}
 
 module _ (room : ℕ) (w : Serializer) where
   -- a refusal leaves the record
@@ -43,18 +43,11 @@ module _ (room : ℕ) (w : Serializer) where
 
 -- the first item
 module _ (room : ℕ) (w : Serializer) (a : List ℕ) where
-  module _ {r : Spot} {o e : ℕ} {v : Serializer} (t : r ≡ spot.At o e) where
-    pub first-list : (isList : Bool) → isList ≡ true → r ≡ spotOf room (w .position) 0 (length (tokenOf isList a)) → (e ≡ w .position + 1 → v ≡ firstList w .after)
-        → PlansAs (place room w (firstItem w a isList)) (record { serializer = v; answer = put.At o })
-    unfolding firstList
-    first-list true k h q = placed room w (firstList w) h t (λ x. q (x ∙ rw (add-zero (w .position))))
-    first-list false k h q = absurd (false≢true k)
-
-    pub first-atom : (isList : Bool) → isList ≡ false → r ≡ spotOf room (w .position) 0 (length (tokenOf isList a)) → (e ≡ w .position + length a → v ≡ firstAtom w a .after)
-        → PlansAs (place room w (firstItem w a isList)) (record { serializer = v; answer = put.At o })
-    unfolding firstAtom
-    first-atom true k h q = absurd (false≢true (sym k))
-    first-atom false k h q = placed room w (firstAtom w a) h t (λ x. q (x ∙ rw (add-zero (w .position))))
+  pub first-placed : (isList : Bool) {r : Spot} {o e : ℕ} {v : Serializer} → r ≡ spot.At o e → r ≡ spotOf room (w .position) 0 (length (tokenOf isList a)) → v ≡ begunAt w e isList
+      → PlansAs (place room w (firstItem w a isList)) (record { serializer = v; answer = put.At o })
+  unfolding firstList firstAtom
+  first-placed true t h q = placed room w (firstList w) h t (λ x. q ∙ ap (λ (n : ℕ). begunAt w n true) (x ∙ rw (add-zero (w .position))))
+  first-placed false t h q = placed room w (firstAtom w a) h t (λ x. q ∙ ap (λ (n : ℕ). begunAt w n false) (x ∙ rw (add-zero (w .position))))
 
   -- without room
   pub first-full : (isList : Bool) {r : Spot} {x : Wrote} → r ≡ spotOf room (w .position) 0 (length (tokenOf isList a)) → x ≡ record { serializer = w; answer = put.NoRoom } → r ≡ spot.NoRoom

@@ -13,6 +13,7 @@ use types.Run.{OneOf}
 use denote.Enum.Declared.{tagOf}
 use Rattle.sise_util.specs.Atom.{isAtom}
 use Rattle.sise_util.proofs.Ranges.{split}
+use Rattle.sise_serializer.specs.Bytes.{pasted}
 use Rattle.sise_serializer.specs.Serializer as writer
 use Rattle.sise_serializer.specs.Serializer.{Style, answerAs, isSound}
 use Rattle.sise_serializer.specs.Calls.{largest, Call, step, run}
@@ -28,11 +29,11 @@ use Rattle.sise_tree.specs.Decision.{decide}
 use Rattle.sise_tree.proofs.LocalLaws.{held}
 use Rattle.sise_tree_writer.specs.SerializeTree.{treeCalls, fits}
 use Rattle.sise_tree_writer.specs.Writing.{Checked}
-use Rattle.sise_tree_writer.specs.Planning.{Plans, itemCall, turnCall, turnLayout, turnToken}
-use Rattle.sise_tree_writer.specs.Walking.{opensAt, atomAt, AtomIn, Writable, writtenIf, Passable, passed, after, firstAnswer, Finds, all, off, Walkable}
-use Rattle.sise_tree_writer.specs.declared.walk.Walked.the-variants.{Fits, Refused}
+use Rattle.sise_tree_writer.specs.Planning.{Plans, CanMake, Makes, itemCall, turnCall}
+use Rattle.sise_tree_writer.specs.Walking.{opensAt, atomAt, AtomIn, Passable, passed, after, firstAnswer, Finds, all, off, Walkable}
+use Rattle.sise_tree_writer.specs.declared.measure.Walked.the-variants.{Fits, Refused}
 use Rattle.sise_tree_writer.proofs.Atoms.{atom-in, atom-good}
-use Rattle.sise_tree_writer.proofs.CallLaws.{fits-off, turn-shape, lists-after, accepted-lists, closed-list, Same, same-start, same-on}
+use Rattle.sise_tree_writer.proofs.CallLaws.{fits-first, fits-off, lists-after, accepted-lists, closed-list, writtenIf, Same, same-start, same-on}
 use Rattle.sise_tree_writer.proofs.Turns.{At, root, inside, behind, Turn, turn}
 
 -- an answer that is no offset
@@ -59,8 +60,9 @@ pub record Walking (s : Style) (text words : List ℕ) (t : ℕ) (writes : Bool)
   pub offset : 0 < i → firstAnswer s room w₀ (treeCalls text t tree) ≡ writer.Answer.accepted o
 
 pub walking-start : (s : Style) (text words : List ℕ) (t : ℕ) (writes : Bool) (room : ℕ) (b : List ℕ) (w : Serializer) {end : ℕ} → end ≡ span words 0
-    → Walkable s b room w text words t writes → Walking s text words t writes room b w b w 0 0 end false true 0
-walking-start s text words t writes room b w z k =
+    → Walkable w text words → (writes ≡ true → room ≡ length b)
+    → (writes ≡ true → (n : Node) → decide (length text) words ≡ some n → fits s room w (treeCalls text t n) ≡ true) → Walking s text words t writes room b w b w 0 0 end false true 0
+walking-start s text words t writes room b w z k lent fit =
     let (n, d, h) = held (length text) words (k .checked .holds) in
     record {
       tree = n;
@@ -69,8 +71,8 @@ walking-start s text words t writes room b w z k =
       sound = k .sound;
       rest = treeCalls text t n;
       at = root n h refl refl z refl refl refl;
-      same = same-start s writes room b w (treeCalls text t n) (k .lent);
-      fit = λ e. k .fit e n d;
+      same = same-start s writes room b w (treeCalls text t n) lent;
+      fit = λ e. fit e n d;
       long = refl;
       begun = λ e. refl;
       offset = λ l. absurd (omega arith);
@@ -114,78 +116,88 @@ module _ {s : Style} {text words : List ℕ} {t : ℕ} {writes : Bool} {room : �
         due : h .rest ≡ call ∷ made .more
         due = made .due ∙ rw (its, lines)
 
-        module _ {r : Wrote} (plan : Plans call s room w r) where
-          -- refused, the calls do not fit
-          pub turn-off : OneOf (1 ∷ 2 ∷ 3 ∷ 4 ∷ 5 ∷ 6 ∷ []) (tagOf puts.the-type (r .answer)) → fits s room w₀ calls ≡ false
-          turn-off k =
-              let (n, e) = not-put (r .answer) k in
-              sym (h .same .fit) ∙ ap (fits s room w) due ∙ fits-off s room w call (made .more) (sym (plan .answer) ∙ e)
+        -- refused, the calls do not fit
+        pub turn-off : {r : Wrote} → Plans call s room w r → OneOf (1 ∷ 2 ∷ 3 ∷ 4 ∷ 5 ∷ 6 ∷ []) (tagOf puts.the-type (r .answer)) → fits s room w₀ calls ≡ false
+        turn-off {r} plan k =
+            let (n, e) = not-put (r .answer) k in
+            sym (h .same .fit) ∙ ap (fits s room w) due ∙ fits-off s room w call (made .more) (sym (plan .answer) ∙ e)
 
-          module _ {at : ℕ} (e : r .answer ≡ put.At at) where
-            accepted : step s room w call .answer ≡ writer.Answer.accepted at
-            accepted = sym (plan .answer) ∙ ap answerAs e
+        -- where they are written, it is accepted
+        pub turn-can : writes ≡ true → CanMake call s w b
+        turn-can y =
+            let (o, e, more) = fits-first s room w call (made .more) (sym (ap (fits s room w) due) ∙ h .same .fit ∙ h .fit y) in
+            record { sound = h .sound; offset = o; accepts = sym (ap (λ (k : ℕ). step s k w call .answer) (h .same .lent y)) ∙ e }
 
-            abbrev layout : List ℕ
-            layout = turnLayout s w (r .serializer .breaks) at closes
+        module _ {v : Serializer} {at : ℕ} (does : v ≡ step s room w call .serializer) (accepted : step s room w call .answer ≡ writer.Answer.accepted at) where
+          -- fewer nodes, or fewer open lists
+          pub turn-less : {j : ℕ} → j ≡ passed words i cur end closes isList .i → 2 * (length words - j) + v .lists < 2 * (length words - i) + w .lists
+          unfolding passed turnCall itemCall
+          turn-less {j} z =
+              let lists : v .lists ≡ lists-after call (w .lists) = ap (λ (x : Serializer). x .lists) does ∙ accepted-lists s room w (h .sound) call accepted in
+              split closes
+              (λ k.
+              let same : j ≡ i = z ∙ (split (eqb cur 0) (λ y. rw (k, y)) (λ y. rw (k, y))) in
+              let one : 0 < w .lists = closed-list s room w (h .sound) (rw k at accepted) in
+              let less : v .lists ≡ w .lists - 1 = rw k at lists in omega arith)
+              (λ k.
+              let there = turn-there k in
+              split isList
+              (λ l.
+              let next : j ≡ i + 1 = z ∙ rw (k, l) in
+              let more : v .lists ≡ w .lists + 1 = rw (k, l) at lists in omega arith)
+              (λ l.
+              let next : j ≡ i + 1 = z ∙ rw (k, l) in
+              let kept : v .lists ≡ w .lists = rw (k, l) at lists in omega arith))
 
-            shaped : (step s room w call .bytes ≡ layout ++ turnToken closes atom isList) × (at ≡ w .position + length layout) × (w .position + length layout + length (turnToken closes atom isList) ≤ room)
-            shaped = let k = turn-shape s room w closes atom isList line accepted in rw (plan .serializer) (k .bytes, k .offset, k .within)
+          module _ {now : List ℕ} (wrote : now ≡ writtenIf writes b (w .position) (step s room w call .bytes)) where
+            later : Same s writes room b₀ w₀ calls now v (made .more)
+            later = same-on (rw due at (h .same)) does wrote accepted
 
-            pub turn-writable : Writable writes (length b) w at layout (turnToken closes atom isList)
-            turn-writable = record { room = λ y. omega (arith, shaped .2, h .same .lent y); offset = λ y. shaped .1 }
+            pub turn-on : {x : ℕ} → x ≡ cond (eqb i 0) at o
+                → let p = passed words i cur end closes isList in Walking s text words t writes room b₀ w₀ now v (p .i) (p .list) (p .end) (p .begins) (p .left) x
+            unfolding firstAnswer
+            turn-on {x} q = record {
+              tree = h .tree;
+              decided = h .decided;
+              checked = h .checked;
+              sound = ap isSound does ∙ sound-kept s room w call (h .sound);
+              rest = made .more;
+              at = made .next;
+              same = later;
+              fit = h .fit;
+              long = split writes (λ y. sym (later .lent y) ∙ h .same .lent y) (λ y. ap length (rw y at wrote)) ∙ h .long;
+              begun = λ z. absurd (let started = made .started in omega (arith, z));
+              offset = λ l.
+                  split (eqb i 0)
+                  (λ y. sym (h .begun (eqb-true i 0 y)) ∙ ap (firstAnswer s room w) due ∙ accepted ∙ ap writer.Answer.accepted (sym (rw y at q)))
+                  (λ y. h .offset (let other = eqb-false i 0 y in omega arith) ∙ ap writer.Answer.accepted (sym (rw y at q)));
+            }
 
-            -- fewer nodes, or fewer open lists
-            pub turn-less : {j : ℕ} → j ≡ passed words i cur end closes isList .i → 2 * (length words - j) + r .serializer .lists < 2 * (length words - i) + w .lists
-            unfolding passed turnCall itemCall
-            turn-less {j} z =
-                let lists : r .serializer .lists ≡ lists-after call (w .lists) = ap (λ (v : Serializer). v .lists) (plan .serializer) ∙ accepted-lists s room w (h .sound) call accepted in
-                split closes
-                (λ k.
-                let same : j ≡ i = z ∙ (split (eqb cur 0) (λ y. rw (k, y)) (λ y. rw (k, y))) in
-                let one : 0 < w .lists = closed-list s room w (h .sound) (rw k at accepted) in
-                let less : r .serializer .lists ≡ w .lists - 1 = rw k at lists in omega arith)
-                (λ k.
-                let there = turn-there k in
-                split isList
-                (λ l.
-                let next : j ≡ i + 1 = z ∙ rw (k, l) in
-                let more : r .serializer .lists ≡ w .lists + 1 = rw (k, l) at lists in omega arith)
-                (λ l.
-                let next : j ≡ i + 1 = z ∙ rw (k, l) in
-                let kept : r .serializer .lists ≡ w .lists = rw (k, l) at lists in omega arith))
+        -- a call that was made as written
+        module _ (y : writes ≡ true) {v : Serializer} {now : List ℕ} (k : Makes call s w b v now) where
+          long-as : length b ≡ room
+          long-as = sym (h .same .lent y)
 
-            module _ {now : List ℕ} (wrote : now ≡ writtenIf writes b (w .position) (layout ++ turnToken closes atom isList)) where
-              later : Same s writes room b₀ w₀ calls now (r .serializer) (made .more)
-              later = same-on (rw due at (h .same)) (plan .serializer) (wrote ∙ ap (writtenIf writes b (w .position)) (sym (shaped .0))) accepted
+          made-does : v ≡ step s room w call .serializer
+          made-does = k .serializer ∙ ap (λ (n : ℕ). step s n w call .serializer) long-as
 
-              pub turn-on : {x : ℕ} → x ≡ cond (eqb i 0) at o
-                  → let p = passed words i cur end closes isList in Walking s text words t writes room b₀ w₀ now (r .serializer) (p .i) (p .list) (p .end) (p .begins) (p .left) x
-              unfolding firstAnswer
-              turn-on {x} q = record {
-                tree = h .tree;
-                decided = h .decided;
-                checked = h .checked;
-                sound = ap isSound (plan .serializer) ∙ sound-kept s room w call (h .sound);
-                rest = made .more;
-                at = made .next;
-                same = later;
-                fit = h .fit;
-                long = split writes (λ y. sym (later .lent y) ∙ h .same .lent y) (λ y. ap length (rw y at wrote)) ∙ h .long;
-                begun = λ z. absurd (let started = made .started in omega (arith, z));
-                offset = λ l.
-                    split (eqb i 0)
-                    (λ y. sym (h .begun (eqb-true i 0 y)) ∙ ap (firstAnswer s room w) due ∙ accepted ∙ ap writer.Answer.accepted (sym (rw y at q)))
-                    (λ y. h .offset (let other = eqb-false i 0 y in omega arith) ∙ ap writer.Answer.accepted (sym (rw y at q)));
-              }
+          made-accepted : step s room w call .answer ≡ writer.Answer.accepted (turn-can y .offset)
+          made-accepted = sym (ap (λ (n : ℕ). step s n w call .answer) long-as) ∙ turn-can y .accepts
+
+          made-wrote : now ≡ writtenIf writes b (w .position) (step s room w call .bytes)
+          made-wrote = rw y (k .buffer ∙ ap (λ (n : ℕ). pasted b (w .position) (step s n w call .bytes)) long-as)
+
+          pub made-less : {j : ℕ} → j ≡ passed words i cur end closes isList .i → 2 * (length words - j) + v .lists < 2 * (length words - i) + w .lists
+          made-less z = turn-less made-does made-accepted z
+
+          pub made-on : let p = passed words i cur end closes isList in (x : ℕ) × Walking s text words t writes room b₀ w₀ now v (p .i) (p .list) (p .end) (p .begins) (p .left) x
+          made-on = (cond (eqb i 0) (turn-can y .offset) o, turn-on made-does made-accepted made-wrote refl)
 
   -- ---- the walk ends
 
   -- a call was refused
   pub walk-off : fits s room w₀ calls ≡ false → {n : Node} → decide (length text) words ≡ some n → Finds s room w₀ (treeCalls text t n) Refused
   walk-off f d = off (rw (the-tree d) at f)
-
-  pub off-buffer : fits s room w₀ calls ≡ false → {n : Node} → decide (length text) words ≡ some n → b ≡ cond writes (run s b₀ w₀ (treeCalls text t n) .buffer) b₀
-  off-buffer f d = split writes (λ y. absurd (false≢true (sym f ∙ h .fit y))) (λ y. rw y (h .same .kept y))
 
   -- nothing is left
   module _ (none : left ≡ false) where
@@ -208,9 +220,11 @@ module _ {s : Style} {text words : List ℕ} {t : ℕ} {writes : Bool} {room : �
     pub walk-all : {n : Node} → decide (length text) words ≡ some n → Finds s room w₀ (treeCalls text t n) (Fits w o)
     walk-all d = rw (← the-tree d, ending) (all all-fit (h .offset (ended (h .at) .1)))
 
-    pub walk-buffer : {n : Node} → decide (length text) words ≡ some n → b ≡ cond writes (run s b₀ w₀ (treeCalls text t n) .buffer) b₀
-    unfolding run
-    walk-buffer d =
-        split writes
-        (λ y. rw (y, ← the-tree d) ((sym (ap (λ (cs : List Call). run s b w cs .buffer) over)) ∙ h .same .buffer y))
-        (λ y. rw y (h .same .kept y))
+    -- written, where that is wished
+    module _ (y : writes ≡ true) {n : Node} (d : decide (length text) words ≡ some n) where
+      pub walk-end : w .position ≡ after s (length b₀) w₀ (treeCalls text t n) .position
+      walk-end = ap (λ (x : Serializer). x .position) (rw (the-tree d, h .same .lent y ∙ h .long) at ending)
+
+      pub walk-buffer : b ≡ run s b₀ w₀ (treeCalls text t n) .buffer
+      unfolding run
+      walk-buffer = rw (← the-tree d) (sym (ap (λ (cs : List Call). run s b w cs .buffer) over) ∙ h .same .buffer y)

@@ -8,18 +8,17 @@ use mathlib.Core.List.{List, [], _∷_}
 use lib.Dec.{ltb, eqb}
 use lib.ListN.{length}
 use Rattle.sise_parser.specs.Reader.{partOf}
-use Rattle.sise_serializer.specs.Bytes.{pasted}
 use Rattle.sise_serializer.specs.Serializer as writer
 use Rattle.sise_serializer.specs.Serializer.{Style, isSound}
-use Rattle.sise_serializer.specs.Calls.{Call, finishCall, step, run}
+use Rattle.sise_serializer.specs.Calls.{Call, step, run}
 use Rattle.sise_serializer.specs.declared.serializer.Serializer.{Serializer}
 use Rattle.sise_tree.specs.Tree.{Node, kind, first, second, span}
 use Rattle.sise_tree.specs.Decision.{decide}
 use Rattle.sise_tree_writer.specs.SerializeTree.{treeCalls, fits}
 use Rattle.sise_tree_writer.specs.Writing.{Checked}
 use Rattle.sise_tree_writer.specs.declared.walk.Place.{Place}
-use Rattle.sise_tree_writer.specs.declared.walk.Walked.{Walked}
-use Rattle.sise_tree_writer.specs.declared.walk.Walked.the-variants.{Fits, Refused}
+use Rattle.sise_tree_writer.specs.declared.measure.Walked.{Walked}
+use Rattle.sise_tree_writer.specs.declared.measure.Walked.the-variants.{Fits, Refused}
 
 -- node i is due and is a list
 abbrev pub opensAt : List ℕ → ℕ → Bool → Bool
@@ -33,15 +32,6 @@ atomAt text words i closes isList = cond closes [] (cond isList [] (partOf text 
 pub record AtomIn (text words : List ℕ) (i : ℕ) : Type 0 where
   pub there : 4 * (i + 1) ≤ length words
   pub inText : first words i + second words i ≤ length text
-
--- the bytes of a turn have room, if they are to be written: `size` bytes are lent
-pub record Writable (writes : Bool) (size : ℕ) (w : Serializer) (at : ℕ) (layout token : List ℕ) : Type 0 where
-  pub room : writes ≡ true → w .position + length layout + length token ≤ size
-  pub offset : writes ≡ true → at ≡ w .position + length layout
-
--- bytes written, or not
-abbrev pub writtenIf : Bool → List ℕ → ℕ → List ℕ → List ℕ
-writtenIf writes before at bytes = cond writes (pasted before at bytes) before
 
 -- a turn may be passed: the words that it leads to are in the table
 pub record Passable (words : List ℕ) (i list : ℕ) (closes : Bool) : Type 0 where
@@ -78,19 +68,21 @@ pub data Finds (s : Style) (room : ℕ) (w : Serializer) (cs : List Call) : Walk
   all : {o : ℕ} → fits s room w cs ≡ true → firstAnswer s room w cs ≡ writer.Answer.accepted o → Finds s room w cs (Fits (after s room w cs) o)
   off : fits s room w cs ≡ false → Finds s room w cs Refused
 
--- what a walk asks for: a sound record, a table that was checked, and, where it writes, a buffer in which the calls fit
-pub record Walkable (s : Style) (before : List ℕ) (room : ℕ) (w : Serializer) (text words : List ℕ) (t : ℕ) (writes : Bool) : Type 0 where
+-- what a walk asks for: a sound record, and a table that was checked
+pub record Walkable (w : Serializer) (text words : List ℕ) : Type 0 where
   pub sound : isSound w ≡ true
   pub checked : Checked text words
-  pub lent : writes ≡ true → room ≡ length before
-  pub fit : writes ≡ true → (n : Node) → decide (length text) words ≡ some n → fits s room w (treeCalls text t n) ≡ true
 
--- what a walk promises
-pub record Walks (s : Style) (before : List ℕ) (room : ℕ) (w : Serializer) (text words : List ℕ) (t : ℕ) (writes : Bool) (r : Walked) (now : List ℕ) : Type 0 where
-  pub finds : (n : Node) → decide (length text) words ≡ some n → Finds s room w (treeCalls text t n) r
-  pub buffer : (n : Node) → decide (length text) words ≡ some n → now ≡ cond writes (run s before w (treeCalls text t n) .buffer) before
+-- what a walk that measures promises
+abbrev pub Walks : Style → ℕ → Serializer → List ℕ → List ℕ → ℕ → Walked → Type 0
+Walks s room w text words t r = (n : Node) → decide (length text) words ≡ some n → Finds s room w (treeCalls text t n) r
 
--- the buffer after the finish behind a walk that fits
-abbrev pub finished : Style → Walked → List ℕ → Bool → List ℕ
-finished s (Fits v o) before wished = pasted before (v .position) (step s (length before) v (finishCall wished) .bytes)
-finished s Refused before wished = before
+-- a walk that writes asks for a buffer in which the calls fit, too
+pub record Writable (s : Style) (buffer : List ℕ) (w : Serializer) (text words : List ℕ) (t : ℕ) : Type 0 where
+  pub walkable : Walkable w text words
+  pub fit : (n : Node) → decide (length text) words ≡ some n → fits s (length buffer) w (treeCalls text t n) ≡ true
+
+-- it promises where the calls end, and what they leave in the buffer
+pub record WritesNodes (s : Style) (before : List ℕ) (w : Serializer) (text words : List ℕ) (t : ℕ) (r : ℕ) (now : List ℕ) : Type 0 where
+  pub end : (n : Node) → decide (length text) words ≡ some n → r ≡ after s (length before) w (treeCalls text t n) .position
+  pub buffer : (n : Node) → decide (length text) words ≡ some n → now ≡ run s before w (treeCalls text t n) .buffer

@@ -1,9 +1,11 @@
 // Trees written from tables of 32-bit words (serialize_tree.rs of the crate sise 0.8.0), at a threshold or in house style.
 mod house;
+mod measure;
 mod plan;
 mod serialize;
 mod walk;
 mod whole;
+mod write;
 
 pub use house::HOUSE_THRESHOLD;
 pub use house::serialize_house;

@@ -16,7 +16,7 @@ ghost use Rattle.sise_util.specs.Atom.{isAtom};
 ghost use Rattle.sise_serializer.specs.Serializer.{limit, style, isSound, place, newLine, innerAs, closeAs, last};
 ghost use Rattle.sise_serializer.specs.Parts.{Small, addedWith, inLine, gapBytes, breakBytes};
 ghost use Rattle.sise_serializer.specs.Calls.{endListCall, finishCall};
-ghost use Rattle.sise_tree_writer.specs.Planning.{PlansAs, Plans, tokenOf, firstItem, itemCall, turnCall};
+ghost use Rattle.sise_tree_writer.specs.Planning.{PlansAs, Plans, tokenOf, firstItem, begunAt, closedWith, itemCall, turnCall};
 
 // A refusal leaves the record.
 fn refused(w: Serializer, answer: Put) -> Wrote
@@ -47,10 +47,40 @@ pub(crate) fn remade(w: Serializer) -> Serializer
 }
 
 // The bytes of an item's token: a parenthesis, or the atom.
-fn token_len(atom: &[u8], is_list: bool) -> usize
+pub(crate) fn token_len(atom: &[u8], is_list: bool) -> usize
     ensures { λ r. ⌜ r ≡ length (tokenOf «is_list» (now (atom .entry))) ⌝ }
 {
     if is_list { 1 } else { atom.len() }
+}
+
+// The record behind the first item of a text, which ends at `position`.
+pub(crate) fn begun(w: Serializer, position: usize, is_list: bool) -> Serializer
+    ensures { λ r. ⌜ r ≡ begunAt w position «is_list» ⌝ }
+{
+    if is_list {
+        return Serializer {
+            position,
+            lists: 1,
+            broken: 0,
+            line_len: 1,
+            spaces: w.spaces,
+            breaks: w.breaks,
+            indents: w.indents,
+            phase: Phase::Writing,
+            list_beginning: true,
+        };
+    }
+    Serializer {
+        position,
+        lists: 0,
+        broken: 0,
+        line_len: w.line_len,
+        spaces: w.spaces,
+        breaks: w.breaks,
+        indents: w.indents,
+        phase: Phase::Finished,
+        list_beginning: w.list_beginning,
+    }
 }
 
 // The first item of a text.
@@ -60,34 +90,8 @@ fn first_item(w: Serializer, room: usize, atom: &[u8], is_list: bool) -> Wrote
     let position = w.position;
     match find_spot(position, room, 0, 0, 0, token_len(atom, is_list)) {
         Spot::At(at, end) => {
-            if is_list {
-                return Wrote {
-                    serializer: Serializer {
-                        position: end,
-                        lists: 1,
-                        broken: 0,
-                        line_len: 1,
-                        spaces: w.spaces,
-                        breaks: w.breaks,
-                        indents: w.indents,
-                        phase: Phase::Writing,
-                        list_beginning: true,
-                    },
-                    answer: Put::At(at),
-                };
-            }
             return Wrote {
-                serializer: Serializer {
-                    position: end,
-                    lists: 0,
-                    broken: 0,
-                    line_len: w.line_len,
-                    spaces: w.spaces,
-                    breaks: w.breaks,
-                    indents: w.indents,
-                    phase: Phase::Finished,
-                    list_beginning: w.list_beginning,
-                },
+                serializer: begun(w, end, is_list),
                 answer: Put::At(at),
             };
         }
@@ -96,7 +100,7 @@ fn first_item(w: Serializer, room: usize, atom: &[u8], is_list: bool) -> Wrote
 }
 
 // The record behind an item in a list.
-fn added(
+pub(crate) fn added(
     lists: usize,
     is_list: bool,
     broken: usize,
@@ -158,7 +162,7 @@ fn on_new_line(
 }
 
 // How many spaces stand before an item that stays in its line.
-fn spaces_before(list_beginning: bool) -> usize
+pub(crate) fn spaces_before(list_beginning: bool) -> usize
     ensures { λ r. ⌜ r ≡ length (gapBytes «list_beginning») ⌝ }
 {
     if list_beginning { 0 } else { 1 }
@@ -216,6 +220,31 @@ fn plan_item(
     }
 }
 
+// The record behind the end of a list, with `left` lists left open.
+pub(crate) fn closed(
+    left: usize,
+    broken: usize,
+    position: usize,
+    line_len: usize,
+    spaces: usize,
+    breaks: usize,
+    indents: usize,
+) -> Serializer
+    ensures { λ r. ⌜ r ≡ closedWith left broken position «line_len» spaces breaks indents ⌝ }
+{
+    Serializer {
+        position,
+        lists: left,
+        broken,
+        line_len,
+        spaces,
+        breaks,
+        indents,
+        phase: phase_after(left),
+        list_beginning: false,
+    }
+}
+
 // A `)` on a line of its own.
 fn close_on_new_line(w: Serializer, line_break: &[u8], indentation: &[u8], room: usize) -> Wrote
     requires { ⌜ (Small w × (0 < w .lists)) × (w .broken ≡ w .lists) ⌝ }
@@ -229,18 +258,9 @@ fn close_on_new_line(w: Serializer, line_break: &[u8], indentation: &[u8], room:
             let line_len = left * size + 1;
             let breaks = w.breaks + 1;
             let indents = w.indents + left;
+            let spaces = w.spaces;
             return Wrote {
-                serializer: Serializer {
-                    position: end,
-                    lists: left,
-                    broken: left,
-                    line_len,
-                    spaces: w.spaces,
-                    breaks,
-                    indents,
-                    phase: phase_after(left),
-                    list_beginning: false,
-                },
+                serializer: closed(left, left, end, line_len, spaces, breaks, indents),
                 answer: Put::At(at),
             };
         }
@@ -257,19 +277,13 @@ fn close_in_line(w: Serializer, room: usize) -> Wrote
     let left = w.lists - 1;
     match find_spot(position, room, 0, 0, 0, 1) {
         Spot::At(at, end) => {
+            let broken = w.broken;
             let line_len = w.line_len + 1;
+            let spaces = w.spaces;
+            let breaks = w.breaks;
+            let indents = w.indents;
             return Wrote {
-                serializer: Serializer {
-                    position: end,
-                    lists: left,
-                    broken: w.broken,
-                    line_len,
-                    spaces: w.spaces,
-                    breaks: w.breaks,
-                    indents: w.indents,
-                    phase: phase_after(left),
-                    list_beginning: false,
-                },
+                serializer: closed(left, broken, end, line_len, spaces, breaks, indents),
                 answer: Put::At(at),
             };
         }

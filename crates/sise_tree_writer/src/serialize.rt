@@ -1,7 +1,8 @@
 // The tree that a table holds, written as the writer's calls would write it. A walk finds out first whether all of it fits, so that a refusal leaves the
 // buffer, and another one writes.
-use crate::walk::Walked;
-use crate::walk::walk;
+use crate::measure::Walked;
+use crate::measure::measure_nodes;
+use crate::write::write_nodes;
 use sise_serializer::Phase;
 use sise_serializer::Serializer;
 use sise_tree::LONGEST;
@@ -121,17 +122,14 @@ fn measure_checked(
     requires { ⌜ (Checked (now text) (now table) × (isSound serializer ≡ true)) × (isOver (serializer .phase) ≡ false) ⌝ }
     ensures { λ r. ⌜ MeasuresNode (style (now («line_break» .entry)) (now (indentation .entry))) room serializer (now (text .entry)) (now (table .entry)) «break_line_at» r ⌝ }
 {
-    let mut none = [0u8; 1];
-    let walked = walk(
+    let walked = measure_nodes(
         serializer,
         line_break,
         indentation,
-        &mut none,
         room,
         text,
         table,
         break_line_at,
-        false,
     );
     match walked {
         Walked::Fits(done, offset) => {
@@ -209,17 +207,14 @@ pub fn serialize_tree(
     let PutTree::At(_) = answer else {
         return measured;
     };
-    let room = buf.len();
-    walk(
+    write_nodes(
         serializer,
         line_break,
         indentation,
         buf,
-        room,
         text,
         table,
         break_line_at,
-        true,
     );
     measured
 }

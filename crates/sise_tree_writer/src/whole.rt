@@ -3,15 +3,18 @@ use crate::plan::plan_finish;
 use crate::serialize::PutTree;
 use crate::serialize::TreeWrote;
 use crate::serialize::measure_tree;
-use crate::walk::Walked;
-use crate::walk::walk;
+use crate::write::write_nodes;
 use sise_serializer::Put;
 use sise_serializer::Serializer;
+use sise_serializer::paste;
 ghost use mathlib.Core.Path.{_≡_};
+ghost use Prim.Native.Nat.{_+_, _≤_};
+ghost use lib.ListN.{length};
+ghost use Rattle.sise_serializer.specs.Bytes.{pasted};
 ghost use Rattle.sise_serializer.specs.Serializer.{style};
+ghost use Rattle.sise_serializer.specs.Parts.{breakBytes};
 ghost use Rattle.sise_tree_writer.specs.SerializeTree.{DoesWrite};
 ghost use Rattle.sise_tree_writer.specs.Writing.{writeText, MeasuresText};
-ghost use Rattle.sise_tree_writer.specs.Walking.{finished};
 
 // What write_text answers with a buffer of `room` bytes, and the record that it leaves. Nothing is written.
 pub fn measure_text(
@@ -55,20 +58,14 @@ pub fn measure_text(
     }
 }
 
-// The finish behind a tree that was written.
-fn finish_tree(
-    walked: Walked,
-    line_break: &[u8],
-    indentation: &[u8],
-    buf: &mut [u8],
-    final_break: bool,
-)
-    ensures { λ _. ⌜ now (buf .exit) ≡ finished (style (now («line_break» .entry)) (now (indentation .entry))) walked (now (buf .entry)) «final_break» ⌝ }
+// The finish behind a tree that ends at `at`: a line break if wished.
+fn finish_tree(buf: &mut [u8], at: usize, line_break: &[u8], final_break: bool)
+    requires { ⌜ at + length (breakBytes «final_break» (now «line_break»)) ≤ length (now buf) ⌝ }
+    ensures { λ _. ⌜ now (buf .exit) ≡ pasted (now (buf .entry)) at (breakBytes «final_break» (now («line_break» .entry))) ⌝ }
 {
-    let Walked::Fits(serializer, _) = walked else {
-        return;
-    };
-    serializer.finish(line_break, indentation, buf, final_break);
+    if final_break {
+        paste(buf, at, line_break);
+    }
 }
 
 // Writes a whole text: the tree that the table holds over `text`, and a line break behind it if wished.
@@ -97,17 +94,15 @@ pub fn write_text(
     let PutTree::At(_) = answer else {
         return measured;
     };
-    let walked = walk(
+    let end = write_nodes(
         Serializer::new(),
         line_break,
         indentation,
         buf,
-        room,
         text,
         table,
         break_line_at,
-        true,
     );
-    finish_tree(walked, line_break, indentation, buf, final_break);
+    finish_tree(buf, end, line_break, final_break);
     measured
 }

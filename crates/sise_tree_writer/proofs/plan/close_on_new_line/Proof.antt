@@ -1,6 +1,6 @@
 -- The record has line break, indentations and `)` counted, or there is no room for them.
 -- Assumes nothing.
-use Prim.Native.Nat.{_-_, min}
+use Prim.Native.Nat.{ℕ, _-_, min}
 use native.Mathlib.Omega.{arith}
 use mathlib.Core.Path.{_≡_, refl, sym, _∙_}
 use mathlib.Core.Bool.{true}
@@ -24,8 +24,8 @@ close-on-new-line-spec =
     (λ c. omega (arith, found _ _ _ _ (sym (c .before .at .given .1) ∙ c .before .before .before .find-spot .ensures) .in-limit))  -- add-line-len
     (λ c. search needs)  -- add-breaks
     (λ c. let s = c .before .before .before .before .before .before .before .before .before .pre .0 .0 in omega (arith, s .steps, s .depth))  -- add-indents
-    (λ c κs. search needs)  -- phase-after-requires
-    (λ c. let a = c .before .before .before .before .before .before .before .before .before .before .args in let all : a .w .lists - 1 ≡ min (a .w .broken) (a .w .lists - 1) = omega (arith, c .before .before .before .before .before .before .before .before .before .before .pre .1) in placed (a .room) (a .w) (closeAs (style (a .line-break .now) (a .indentation .now)) (a .w) true) (spot-as _ _ (c .before .before .before .before .before .before .find-spot .ensures) (sym (layout-length (a .line-break .now) (a .w .lists - 1) (a .indentation .now))) refl) (c .before .before .before .before .at .given .1) (λ x. rw (x, c .phase-after .ensures, ← all)))  -- returns
+    (λ c κs. search needs)  -- closed-requires
+    (λ c. let a = c .before .before .before .before .before .before .before .before .before .before .args in let all : a .w .lists - 1 ≡ min (a .w .broken) (a .w .lists - 1) = omega (arith, c .before .before .before .before .before .before .before .before .before .before .pre .1) in placed (a .room) (a .w) (closeAs (style (a .line-break .now) (a .indentation .now)) (a .w) true) (spot-as _ _ (c .before .before .before .before .before .before .find-spot .ensures) (sym (layout-length (a .line-break .now) (a .w .lists - 1) (a .indentation .now))) refl) (c .before .before .before .before .at .given .1) (λ x. c .closed .ensures ∙ rw (x, ← all)))  -- returns
     (λ c. search needs)  -- enum-told
     (λ c κs. search needs)  -- refused-requires
     (λ c. let a = c .before .before .before .before .before .before .before .args in full (a .room) (a .w) (closeAs (style (a .line-break .now) (a .indentation .now)) (a .w) true) (spot-as _ _ (c .before .before .before .find-spot .ensures) (sym (layout-length (a .line-break .now) (a .w .lists - 1) (a .indentation .now))) refl) (c .refused .ensures) (c .before .enum-told .given .1)))  -- returns-2

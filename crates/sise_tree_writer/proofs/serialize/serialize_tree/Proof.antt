@@ -18,6 +18,6 @@ serialize-tree-spec =
     (λ c κs. search needs)  -- measure-tree-requires
     (λ c. search needs)  -- enum-told
     (λ c. let a = c .before .before .before .before .before .before .before .args in let m = c .before .measure-tree .ensures (a .buf .now) refl in record { serializer = m .serializer; answer = m .answer; buffer = sym (tree-kept _ _ _ _ _ _ (λ o e. not-at (c .before .measure-tree .result .answer) (c .match .keys2) o (m .answer ∙ e))) })  -- returns
-    (λ c κs. let a = c .before .before .before .before .before .before .before .before .before .args in let m = c .before .before .before .measure-tree .ensures (a .buf .now) refl in let k = tree-accepted (style (a .line-break .now) (a .indentation .now)) (a .buf .now) (a .serializer) (a .text .now) (a .table .now) (treeCalls (a .text .now) (a .break-line-at)) (sym (m .answer) ∙ ap putAs (c .before .enum-told .given .1)) in record { sound = k .sound; checked = accepted-checked k; lent = λ y. refl; fit = λ y n d. rw (Option·some-injective _ _ (sym d ∙ k .decided)) (k .fit) })  -- walk-requires
+    (λ c κs. let a = c .before .before .before .before .before .before .before .before .before .args in let m = c .before .before .before .measure-tree .ensures (a .buf .now) refl in let k = tree-accepted (style (a .line-break .now) (a .indentation .now)) (a .buf .now) (a .serializer) (a .text .now) (a .table .now) (treeCalls (a .text .now) (a .break-line-at)) (sym (m .answer) ∙ ap putAs (c .before .enum-told .given .1)) in record { walkable = record { sound = k .sound; checked = accepted-checked k }; fit = λ n d. rw (Option·some-injective _ _ (sym d ∙ k .decided)) (k .fit) })  -- write-nodes-requires
     (λ c. search needs)  -- same-length
-    (λ c. let a = c .before .before .before .before .before .before .before .before .before .before .before .before .args in let m = c .before .before .before .before .before .before .measure-tree .ensures (a .buf .now) refl in let k = tree-accepted (style (a .line-break .now) (a .indentation .now)) (a .buf .now) (a .serializer) (a .text .now) (a .table .now) (treeCalls (a .text .now) (a .break-line-at)) (sym (m .answer) ∙ ap putAs (c .before .before .before .before .enum-told .given .1)) in record { serializer = m .serializer; answer = m .answer; buffer = c .before .before .walk .ensures .buffer (k .node) (k .decided) ∙ sym (ap (λ (d : Writes). d .buffer) (k .same)) }))  -- returns-2
+    (λ c. let a = c .before .before .before .before .before .before .before .before .before .before .before .before .args in let m = c .before .before .before .before .before .before .measure-tree .ensures (a .buf .now) refl in let k = tree-accepted (style (a .line-break .now) (a .indentation .now)) (a .buf .now) (a .serializer) (a .text .now) (a .table .now) (treeCalls (a .text .now) (a .break-line-at)) (sym (m .answer) ∙ ap putAs (c .before .before .before .before .enum-told .given .1)) in record { serializer = m .serializer; answer = m .answer; buffer = c .before .before .write-nodes .ensures .buffer (k .node) (k .decided) ∙ sym (ap (λ (d : Writes). d .buffer) (k .same)) }))  -- returns-2
