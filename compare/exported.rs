@@ -4,6 +4,8 @@
 extern "C" {
     pub fn sise_check_atom(atom: *const u8, atom_len: usize) -> u32;
 
+    pub fn sise_atom_kind(atom: *const u8, atom_len: usize) -> u32;
+
     pub fn sise_count_items(text: *const u8, text_len: usize) -> u64;
 
     pub fn sise_parse_tree(

@@ -5,10 +5,10 @@
  *     cc -I include program.c target/staticlib/libsise_c.a       links it; it needs no other library
  *
  * A text is bytes: one node, which is an atom or a list of nodes, as in (stage (x -12.5 "a b")). Space, tab, LF and CR may stand
- * between them, and so may a comment, from `;` to the line's end. Each call does a whole job: it checks an atom, reads a text
- * into a table, finds a node in a table, writes or measures a table's tree as a text, reads a text's items into words, or runs
- * a list of writer calls. examples/c/show.c is a small program over them; examples/c/calls.c makes each call with all that it
- * takes and prints all that it gives.
+ * between them, and so may a comment, from `;` to the line's end. Each call does a whole job: it checks an atom or says its
+ * kind, reads a text into a table, finds a node in a table, writes or measures a table's tree as a text, reads a text's items
+ * into words, or runs a list of writer calls. examples/c/show.c is a small program over them; examples/c/calls.c makes each
+ * call with all that it takes and prints all that it gives.
  *
  * Memory. The caller owns all memory and lends it for the time of the call: no call allocates, keeps a pointer, has a state
  * of its own, recurses, or touches a byte outside of what it was lent. Lent memory crosses as a pointer and a number of
@@ -18,18 +18,20 @@
  *   - No other thread writes what is lent while the call runs, or reads what the call writes.
  *
  * Results. A call that returns uint32_t returns 0, or a refusal's number (below); of a refusal nothing is written but `values`.
- * `values` are two words, which a call that takes them always writes. Where it is not refused, values[0] is what it answers and
- * values[1] is 0. Of a refusal in the text (1 to 8), values[0] is the place, a byte's offset from 0, and values[1] the code
- * point found there (of 1 to 3, else 0). Of any other refusal both are 0. Where a call has several reasons to refuse, it gives
- * the first in the order that is said of it.
+ * Only sise_atom_kind, which refuses nothing, returns a kind there. `values` are two words, which a call that takes them always
+ * writes. Where it is not refused, values[0] is what it answers and values[1] is 0. Of a refusal in the text (1 to 8), values[0]
+ * is the place, a byte's offset from 0, and values[1] the code point found there (of 1 to 3, else 0). Of any other refusal both
+ * are 0. Where a call has several reasons to refuse, it gives the first in the order that is said of it.
  *
  * From fault to fault. The place of 1, 2, 3 and 8 is that of a character's first byte. A character that is cut off or broken
  * is one fault, as in an editor: it has the bytes from there on that are a start of a well-formed character, at least one, and
  * the next place to look at is the byte behind them. After 0xE2 0x82 that is two bytes on, after 0xC0 one.
  *
  * Tables. A tree is held in a table of 32-bit words, four a node, a list's children after it in order:
- *     an atom:  1, place of its first byte in the text, number of bytes, 1
+ *     an atom:  its kind 1, 2 or 3, place of its first byte in the text, number of bytes, 1
  *     a list:   0, number of children, distance in nodes back to its parent, number of nodes in it with itself
+ * The kind is what sise_atom_kind says of the atom's bytes: 1 plain, 2 one whole string, 3 any other atom. A table with another
+ * first word holds no tree over the text; where the bytes are no atom, each of the three may stand there.
  * A list's parent is the list that it stands in: if the list is node i and its distance d, the parent is node i - d. The text's
  * own list has no parent, and 0 there. A table has no text of its own: the calls want the text beside it. In the first node that
  * is lent the distance is not looked at, and neither are the words after that node's own, so the subtree of node i is the table
@@ -71,7 +73,7 @@ enum sise_refusal {
     /* Of what is lent. */
     SISE_TEXT_TOO_LONG = 13, /* the text has more than SISE_LONGEST bytes */
     SISE_TABLE_FULL = 14,    /* the memory has no room for what was read */
-    SISE_NOT_A_TREE = 15,    /* the table holds no tree over this text */
+    SISE_NOT_A_TREE = 15,    /* the table holds no tree over this text, as one with the first word 4 */
     SISE_NO_SUCH_NODE = 16,  /* no node at the end of the path */
     SISE_INVALID_ATOM = 17,  /* the bytes are no atom */
     /* Of the writer. */
@@ -87,6 +89,13 @@ enum sise_refusal {
  * Refused: 17.
  */
 uint32_t sise_check_atom(const uint8_t *atom, size_t atom_len);
+
+/*
+ * Which atom the bytes are, as a program that colours strings wants to know: 1 plain, with no `"` in it, as x; 2 one whole
+ * string, as "a b" or "\""; 3 any other atom, as x"y" or "a""b"; 0 no atom, where sise_check_atom gives 17. It is the first
+ * word of such an atom in a table.
+ */
+uint32_t sise_atom_kind(const uint8_t *atom, size_t atom_len);
 
 /*
  * Reads a whole text, which is one node with blanks and comments around it, into the first words of the table; the words

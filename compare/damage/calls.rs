@@ -2,8 +2,9 @@
 
 use crate::answers::Reported;
 use crate::exported::{
-    sise_check_atom, sise_count_items, sise_index_path, sise_measure_tree, sise_parse_tree,
-    sise_read_items, sise_serialize_tree, sise_write_calls, sise_write_calls_singly,
+    sise_atom_kind, sise_check_atom, sise_count_items, sise_index_path, sise_measure_tree,
+    sise_parse_tree, sise_read_items, sise_serialize_tree, sise_write_calls,
+    sise_write_calls_singly,
 };
 use crate::guard::{Edge, Region};
 
@@ -75,6 +76,12 @@ impl Calls {
         let atom = self.text.lend(atom, edge);
         // Here and below, the lent slices outlive the call, and no two are of one region.
         unsafe { sise_check_atom(atom.first(), atom.len()) }
+    }
+
+    pub fn atom_kind(&mut self, atom: &[u8], edge: Edge) -> u32 {
+        self.made += 1;
+        let atom = self.text.lend(atom, edge);
+        unsafe { sise_atom_kind(atom.first(), atom.len()) }
     }
 
     pub fn count_items(&mut self, text: &[u8], edge: Edge) -> u64 {

@@ -1,13 +1,14 @@
-//! One case of a seed, by its number: a text that is read, a table, or a list of the writer's calls.
+//! One case of a seed, by its number: a text that is read, a table, a list of the writer's calls, or bytes that may be an atom.
 
 use crate::answers::Check;
 use crate::calls::Calls;
 use crate::damage::damage;
+use crate::kinds;
 use crate::numbers::{bytes, hostile, len, threshold};
 use crate::random::Random;
 use crate::reading;
 use crate::scripts::script;
-use crate::shown::{tree_shown, writing_shown};
+use crate::shown::{bytes_shown, tree_shown, writing_shown};
 use crate::styles::style;
 use crate::tables::{table, words};
 use crate::texts::{good, Texts};
@@ -16,10 +17,11 @@ use crate::writing::Writing;
 
 pub fn run(calls: &mut Calls, texts: &Texts, seed: u64, number: u64) -> Check {
     let mut random = Random::new(seed << 32 ^ number);
-    match random.below(3) {
-        0 => read(calls, &mut random, texts),
-        1 => held(calls, &mut random, texts),
-        _ => written(calls, &mut random, texts),
+    match random.below(10) {
+        0..=2 => read(calls, &mut random, texts),
+        3..=5 => held(calls, &mut random, texts),
+        6..=8 => written(calls, &mut random, texts),
+        _ => checked(calls, &mut random, texts),
     }
 }
 
@@ -60,6 +62,15 @@ fn written(calls: &mut Calls, random: &mut Random, texts: &Texts) -> Check {
     writing
         .check(calls)
         .map_err(|rule| format!("{rule}; {}", writing_shown(&writing)))
+}
+
+fn checked(calls: &mut Calls, random: &mut Random, texts: &Texts) -> Check {
+    let bytes = if random.percent(80) {
+        kinds::bytes(random)
+    } else {
+        texts.text(random)
+    };
+    kinds::check_read(calls, &bytes).map_err(|rule| format!("{rule}; {}", bytes_shown(&bytes)))
 }
 
 fn tree(random: &mut Random, text: Vec<u8>, table: Vec<u32>) -> Tree {

@@ -1,26 +1,49 @@
-//! What a table holds, by document 01's rules and request 2.6's for the third word of a list.
+//! What a table holds, by document 01's rules, request 2.6's for the third word of a list and request 2.3's for the first word of an atom.
 
-/// Whether the table holds a tree over a text of so many bytes.
-pub fn holds_tree(table: &[u32], text_len: usize) -> bool {
-    behind(table, None, text_len).is_some()
+use crate::atoms::{is_atom, may_be};
+
+#[derive(Clone, Copy, PartialEq)]
+pub enum Held {
+    Tree,
+    /// A tree, but some of what it calls an atom is none.
+    NoAtom,
+    NotATree,
+}
+
+pub fn held(table: &[u32], text: &[u8]) -> Held {
+    let Some(rest) = behind(table, None, text) else {
+        return Held::NotATree;
+    };
+    let tree = &table[..table.len() - rest.len()];
+    let mut atoms = tree.chunks_exact(4).filter(|node| node[0] != 0);
+    if atoms.all(|node| bytes(node[1], node[2], text).is_some_and(is_atom)) {
+        Held::Tree
+    } else {
+        Held::NoAtom
+    }
 }
 
 /// The words behind the first node, if it and its children have the forms and the children fill its span. Its parent, if any, lies `back` nodes before it.
-fn behind(table: &[u32], back: Option<usize>, text_len: usize) -> Option<&[u32]> {
+fn behind<'a>(table: &'a [u32], back: Option<usize>, text: &[u8]) -> Option<&'a [u32]> {
     let &[kind, first, second, nodes] = table.first_chunk::<4>()?;
     let (span, rest) = table.split_at_checked(4 * nodes as usize)?;
     match (kind, second, nodes) {
-        (1, len, 1) if first as usize + len as usize <= text_len => Some(rest),
         (0, third, 1..) if back.is_none_or(|back| back == third as usize) => {
             let mut row = &span[4..];
             for _ in 0..first {
                 let back = (span.len() - row.len()) / 4;
-                row = behind(row, Some(back), text_len)?;
+                row = behind(row, Some(back), text)?;
             }
             row.is_empty().then_some(rest)
         }
+        (1.., len, 1) => may_be(kind, bytes(first, len, text)?).then_some(rest),
         _ => None,
     }
+}
+
+/// So many bytes of the text from a place on.
+pub fn bytes(place: u32, len: u32, text: &[u8]) -> Option<&[u8]> {
+    text.get(place as usize..place as usize + len as usize)
 }
 
 /// The items of the nodes: one for an atom, two for a list.

@@ -1,8 +1,9 @@
-//! The longest text that document 01 allows, and one byte more.
+//! The longest text that document 01 allows, and one byte more; and atoms that are longer.
 
 use crate::answers::{ensure, refused, twice, Check};
 use crate::calls::{Calls, Script, Style};
 use crate::guard::Edge;
+use crate::kinds;
 
 pub const LONGEST: usize = 16_777_216;
 
@@ -14,7 +15,24 @@ pub fn check(calls: &mut Calls) -> Check {
     let too_long = vec![b' '; LONGEST + 1];
     tree_calls(calls, &longest, [refused(5), 0, 2])?;
     tree_calls(calls, &too_long, [refused(13); 3])?;
+    atom_calls(calls)?;
     writer_calls(calls)
+}
+
+/// The calls on a single atom have no limit.
+fn atom_calls(calls: &mut Calls) -> Check {
+    let mut atom = vec![b'a'; LONGEST + 2];
+    let plain = kinds::check(calls, &atom)?;
+    atom[LONGEST + 1] = b'"';
+    let unfinished = kinds::check(calls, &atom)?;
+    atom[0] = b'"';
+    let string = kinds::check(calls, &atom)?;
+    atom.push(b'a');
+    let mixed = kinds::check(calls, &atom)?;
+    ensure(
+        [plain, unfinished, string, mixed] == [1, 0, 2, 3],
+        "atom_kind past the longest text",
+    )
 }
 
 /// The answers of the three tree calls over a text.

@@ -2,6 +2,8 @@
 //! and a case not far back, and `--seed S --from K --cases N` goes on from there.
 
 mod answers;
+#[path = "../src/atoms.rs"]
+mod atoms;
 mod calls;
 mod cases;
 #[path = "../src/damage.rs"]
@@ -12,6 +14,7 @@ mod exported;
 mod forms;
 mod guard;
 mod items;
+mod kinds;
 mod limits;
 mod numbers;
 mod options;

@@ -1,10 +1,11 @@
-//! `sise_count_items`, `sise_parse_tree`, `sise_check_atom`, and `sise_read_items` beside them.
+//! `sise_count_items`, `sise_parse_tree`, and beside them `sise_read_items` and the calls on a single atom.
 
 use crate::answers::{ensure, only_first, refusal, refused, twice, Check};
 use crate::calls::Calls;
 use crate::forms;
-use crate::forms::holds_tree;
+use crate::forms::{held, Held};
 use crate::items;
+use crate::kinds;
 
 /// A whole text's refusals; 12 comes only where a list start was read before.
 const OF_TEXT: [u64; 8] = [1, 2, 3, 4, 5, 6, 7, 8];
@@ -20,11 +21,7 @@ pub fn check(calls: &mut Calls, text: &[u8], before: &[u32]) -> Check<Vec<u32>> 
     )?;
     items::check(calls, text, whole, count)?;
     let (answer, after) = parsed(calls, text, before)?;
-    let atom = refusal(whole).is_none() && tree[..4] == [1, 0, text.len() as u32, 1];
-    ensure(
-        twice(|edge| calls.check_atom(text, edge))? == if atom { 0 } else { 17 },
-        "check_atom: 0 where the whole text is one atom",
-    )?;
+    kinds::check_read(calls, text)?;
     if refusal(whole).is_some() {
         ensure(
             refusal(whole) != Some(14),
@@ -47,6 +44,7 @@ pub fn check(calls: &mut Calls, text: &[u8], before: &[u32]) -> Check<Vec<u32>> 
         !fits || after.starts_with(tree),
         "parse_tree: the same tree in any table",
     )?;
+    kinds::check_tree(calls, text, tree)?;
     exact(calls, text, tree)?;
     Ok(after)
 }
@@ -84,12 +82,12 @@ fn parsed(calls: &mut Calls, text: &[u8], before: &[u32]) -> Check<(u64, Vec<u32
             "parse_tree: the nodes answered",
         )?;
         ensure(
-            matches!(after[..], [1, ..] | [0, _, 0, ..]),
+            matches!(after[..], [1..=3, ..] | [0, _, 0, ..]),
             "parse_tree: 0 as the root's third word",
         )?;
         ensure(
-            holds_tree(&after, text.len()),
-            "parse_tree: the table holds a tree",
+            held(&after, text) == Held::Tree,
+            "parse_tree: the table holds a tree of atoms",
         )?;
     }
     Ok((answer, after))

@@ -33,6 +33,10 @@ pub fn writing_shown(writing: &Writing) -> String {
     )
 }
 
+pub fn bytes_shown(bytes: &[u8]) -> String {
+    format!("bytes {}", values(bytes, ""))
+}
+
 fn values<T: LowerHex>(values: &[T], between: &str) -> String {
     let width = if between.is_empty() { 2 } else { 1 };
     let first: Vec<String> = values

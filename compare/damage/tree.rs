@@ -2,7 +2,7 @@
 
 use crate::answers::{ensure, only_first, refusal, refused, twice, Check};
 use crate::calls::{Calls, Style};
-use crate::forms::{holds_tree, node_at};
+use crate::forms::{held, node_at, Held};
 
 pub struct Tree {
     pub text: Vec<u8>,
@@ -16,12 +16,16 @@ pub struct Tree {
 
 impl Tree {
     pub fn check(&self, calls: &mut Calls) -> Check {
-        let holds = holds_tree(&self.table, self.text.len());
-        self.check_paths(calls, holds)?;
+        let held = held(&self.table, &self.text);
+        self.check_paths(calls, held)?;
         let (answer, written) = self.serialized(calls, &self.buffer)?;
         ensure(
-            (answer == refused(15)) != holds,
+            (answer == refused(15)) == (held == Held::NotATree),
             "serialize_tree: 15 where there is no tree",
+        )?;
+        ensure(
+            (answer == refused(17)) == (held == Held::NoAtom),
+            "serialize_tree: 17 where an atom of the tree is none",
         )?;
         let measured = self.measured(calls)?;
         let short = refusal(measured).is_none() && measured > self.buffer.len() as u64;
@@ -35,12 +39,12 @@ impl Tree {
         Ok(())
     }
 
-    fn check_paths(&self, calls: &mut Calls, holds: bool) -> Check {
+    fn check_paths(&self, calls: &mut Calls, held: Held) -> Check {
         for path in &self.paths {
-            let expected = if holds {
-                node_at(&self.table, path).unwrap_or(refused(16))
-            } else {
+            let expected = if held == Held::NotATree {
                 refused(15)
+            } else {
+                node_at(&self.table, path).unwrap_or(refused(16))
             };
             let reported = twice(|edge| calls.index_path(&self.text, &self.table, path, edge))?;
             ensure(

@@ -1,5 +1,6 @@
 //! What crates/characters has to print: see crates/characters/src/main.rt for the cases and the lines.
 
+use crate::atoms::kind;
 use std::io::{Read, Write};
 
 /// The class numbers of crates/sise_util/src/classes.rt, from the crate's own tests.
@@ -30,6 +31,15 @@ fn bit(yes: bool) -> char {
 /// The crate takes a `&str`: bytes that are no valid UTF-8 have a byte past 0x7E, which no atom has.
 fn check_atom(bytes: &[u8]) -> bool {
     std::str::from_utf8(bytes).map_or(false, crate::check_atom)
+}
+
+/// The number of an atom's kind, which the crate does not have, and 0 for no atom.
+fn kind_number(bytes: &[u8]) -> u32 {
+    if check_atom(bytes) {
+        kind(bytes)
+    } else {
+        0
+    }
 }
 
 /// By the standard library's decoder, which takes a broken character as a maximal subpart.
@@ -74,10 +84,10 @@ pub fn run() {
             continue;
         };
         let bytes = case_bytes(line);
-        out.push(bit(check_atom(&bytes)));
-        out.push(' ');
+        out += &format!("{} ", kind_number(&bytes));
         for len in 0..=bytes.len() + 1 {
-            out.push(bit(bytes.get(..len).map_or(false, check_atom)));
+            let number = bytes.get(..len).map_or(0, kind_number);
+            out += &number.to_string();
         }
         for place in 0..=bytes.len() + 1 {
             out.push(' ');

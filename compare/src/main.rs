@@ -15,6 +15,7 @@
 
 extern crate alloc;
 
+mod atoms;
 mod cases;
 mod characters;
 mod damage;

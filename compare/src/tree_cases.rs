@@ -183,22 +183,71 @@ fn threshold(random: &mut Random) -> u64 {
     }
 }
 
-/// A few words stored: most make the table one that holds no tree, or an atom none. Every other one is a third word, which says of a list where its
-/// parent is, and one in four of these is the first node's that the calls are lent, where it isn't looked at.
+/// A few words stored: most make the table one that holds no tree, or an atom none.
 fn stores(random: &mut Random, case: &TreeCase) -> Vec<(usize, u32)> {
-    let len = case.text.len() as u32;
+    let table = parsed(case);
     (0..=random.below(3))
-        .map(|_| {
-            let near = random.below(case.words / 4 + 2) as u32;
-            let place = match random.below(8) {
-                0 => case.first + 2,
-                1..=3 => 4 * random.below(case.words / 4 + 1) + 2,
-                _ => random.below(case.words + 2),
-            };
-            let word = random.pick(&[0, 1, 2, 3, near, near, len, len + 1, u32::MAX]);
-            (place, word)
+        .flat_map(|_| match random.below(8) {
+            0..=2 => first_word(random, case, &table),
+            3 => moved_atom(random, case, &table),
+            _ => vec![any_word(random, case)],
         })
         .collect()
+}
+
+/// The table as `parse_tree` leaves it.
+fn parsed(case: &TreeCase) -> Vec<u32> {
+    let mut table = case.fresh_table();
+    parse_tree(&mut model::Model::after(&case.text, case.calls), &mut table);
+    table
+}
+
+/// The place of an atom's first word in the table, if it has an atom.
+fn atom(random: &mut Random, table: &[u32]) -> Option<usize> {
+    let nodes = table.chunks_exact(4).enumerate();
+    let atoms: Vec<usize> = nodes
+        .filter(|(_, node)| (1..=3).contains(&node[0]))
+        .map(|(index, _)| 4 * index)
+        .collect();
+    (!atoms.is_empty()).then(|| random.pick(&atoms))
+}
+
+/// A node's first word, most often an atom's, which says of which kind the atom is.
+fn first_word(random: &mut Random, case: &TreeCase, table: &[u32]) -> Vec<(usize, u32)> {
+    let any = 4 * random.below(case.words / 4 + 1);
+    let place = atom(random, table).filter(|_| random.percent(80));
+    let word = random.pick(&[0, 1, 1, 2, 2, 2, 3, 3, 4, 5]);
+    vec![(place.unwrap_or(any), word)]
+}
+
+/// An atom becomes another part of the text, as one of any kind: an atom, mostly none.
+fn moved_atom(random: &mut Random, case: &TreeCase, table: &[u32]) -> Vec<(usize, u32)> {
+    let Some(node) = atom(random, table) else {
+        return Vec::new();
+    };
+    let place = random.below(case.text.len());
+    let longest = (case.text.len() - place).min(9);
+    let len = random.below(longest + 1);
+    let kind = random.pick(&[1, 2, 3, 3, 4]);
+    vec![
+        (node, kind),
+        (node + 1, place as u32),
+        (node + 2, len as u32),
+    ]
+}
+
+/// Every other one is a third word, which says of a list where its parent is, and one in four of these is the first node's that the calls are lent, where
+/// it isn't looked at.
+fn any_word(random: &mut Random, case: &TreeCase) -> (usize, u32) {
+    let len = case.text.len() as u32;
+    let near = random.below(case.words / 4 + 2) as u32;
+    let place = match random.below(8) {
+        0 => case.first + 2,
+        1..=3 => 4 * random.below(case.words / 4 + 1) + 2,
+        _ => random.below(case.words + 2),
+    };
+    let word = random.pick(&[0, 1, 2, 3, near, near, len, len + 1, u32::MAX]);
+    (place, word)
 }
 
 /// Mostly a node's first word, so that the calls get a subtree.
@@ -216,10 +265,9 @@ fn room(random: &mut Random, case: &TreeCase) -> usize {
     if choice > 3 {
         return LARGEST_ROOM;
     }
-    let mut table = case.fresh_table();
-    parse_tree(&mut model::Model::after(&case.text, case.calls), &mut table);
+    let mut table = parsed(case);
     case.store(&mut table);
-    let tree = held(&table[case.first..], case.text.len());
+    let tree = held(&table[case.first..], &case.text);
     let len = if choice < 2 {
         let (mut model, _) = opened(case.style, LARGEST_ROOM, case.lists);
         for _ in 0..case.writings {

@@ -1,11 +1,11 @@
-//! Examples of trees from document 01 and request 2.6, with their answers written by hand from them.
+//! Examples of trees from document 01 and requests 2.3 and 2.6, with their answers written by hand from them.
 
 use crate::differences::Differences;
 use crate::tree_case::TreeCase;
 use crate::tree_cases::plain;
 use crate::tree_judge::TreeJudge;
 
-/// The worked tree and its paths; the rows 12, 14 and 15 of the table of refusals; and the third words of lists.
+/// The worked tree and its paths; the rows 12, 14 and 15 of the table of refusals; the third words of lists; and the first words of atoms.
 pub fn cases() -> Vec<TreeCase> {
     let mut cases = vec![
         TreeCase {
@@ -24,12 +24,13 @@ pub fn cases() -> Vec<TreeCase> {
         },
         TreeCase {
             words: 4,
-            stores: vec![(0, 2)],
+            stores: vec![(0, 4)],
             paths: vec![vec![]],
             ..plain(b"a")
         },
     ];
     cases.extend(third_words());
+    cases.extend(first_words());
     cases
 }
 
@@ -49,8 +50,31 @@ fn third_words() -> [TreeCase; 3] {
     ]
 }
 
-const ANSWERS: [&str; 7] = [
-    "# 6 | 16 2 0\n: 0 3 0 6 1 1 1 1 0 2 2 3 1 4 2 1 1 7 5 1 1 14 1 1\n\
+/// Each kind in a list; 1 for a string, 2 for a plain atom, 1 for one that is neither; 1, 2, 3 and 4 where the bytes are no atom; and a wrong kind behind
+/// such bytes, so that 15 comes before 17.
+fn first_words() -> [TreeCase; 9] {
+    let case = |text: &[u8], words, stores| TreeCase {
+        words,
+        stores,
+        paths: vec![vec![]],
+        ..plain(text)
+    };
+    let no_atom = |kind| case(b"a b", 4, vec![(0, kind), (2, 3)]);
+    [
+        case(br#"("" "\"" "a""b" a"b" c)"#, 24, vec![]),
+        case(b"\"a b\"", 4, vec![(0, 1)]),
+        case(b"a", 4, vec![(0, 2)]),
+        case(b"a\"b\"", 4, vec![(0, 1)]),
+        no_atom(1),
+        no_atom(2),
+        no_atom(3),
+        no_atom(4),
+        case(b"(a b)", 12, vec![(6, 3), (8, 2)]),
+    ]
+}
+
+const ANSWERS: [&str; 16] = [
+    "# 6 | 16 2 0\n: 0 3 0 6 1 1 1 1 0 2 2 3 1 4 2 1 2 7 5 1 1 14 1 1\n\
      @ 0 | 16 2 0 0 16 3 0 0 0\n= (z (+1 \"a b\") ~)\n\
      @ 0 | 29 3 0 0 1 0 6 5 0\n= (z\n  (+1\n    \"a b\"\n  )\n  ~\n)\n\n\
      @ 0 | 17 3 0 0 16 3 1 0 0\n= (z (+1 \"a b\") ~)\n\n\
@@ -80,6 +104,36 @@ const ANSWERS: [&str; 7] = [
      @ 0 | 3 3 0 0 2 0 1 0 0\n= ()\n\n\
      @ 0 | 3 3 0 0 2 0 1 0 0\n= ()\n\n\
      # 0\n! 16\n",
+    "# 6 | 23 2 0\n: 0 5 0 6 2 1 2 1 2 4 4 1 3 9 6 1 3 16 4 1 1 21 1 1\n\
+     @ 0 | 23 2 0 0 23 4 0 0 0\n= (\"\" \"\\\"\" \"a\"\"b\" a\"b\" c)\n\
+     @ 0 | 33 3 0 0 1 0 6 4 0\n= (\"\"\n  \"\\\"\"\n  \"a\"\"b\"\n  a\"b\"\n  c\n)\n\n\
+     @ 0 | 24 3 0 0 23 4 1 0 0\n= (\"\" \"\\\"\" \"a\"\"b\" a\"b\" c)\n\n\
+     @ 0 | 24 3 0 0 23 4 1 0 0\n= (\"\" \"\\\"\" \"a\"\"b\" a\"b\" c)\n\n\
+     # 0\n",
+    "# 1 | 5 2 0\n: 2 0 5 1\n\
+     ! 15 | 0 0 0 0 0 0 0 0 0\n= \n! 15 | 0 0 0 0 0 0 0 0 0\n= \n\
+     ! 15 | 0 0 0 0 0 0 0 0 0\n= \n! 15 | 0 0 0 0 0 0 0 0 0\n= \n! 15\n",
+    "# 1 | 1 2 0\n: 1 0 1 1\n\
+     ! 15 | 0 0 0 0 0 0 0 0 0\n= \n! 15 | 0 0 0 0 0 0 0 0 0\n= \n\
+     ! 15 | 0 0 0 0 0 0 0 0 0\n= \n! 15 | 0 0 0 0 0 0 0 0 0\n= \n! 15\n",
+    "# 1 | 4 2 0\n: 3 0 4 1\n\
+     ! 15 | 0 0 0 0 0 0 0 0 0\n= \n! 15 | 0 0 0 0 0 0 0 0 0\n= \n\
+     ! 15 | 0 0 0 0 0 0 0 0 0\n= \n! 15 | 0 0 0 0 0 0 0 0 0\n= \n! 15\n",
+    "# 1 | 1 2 0\n: 1 0 1 1\n\
+     ! 17 | 0 0 0 0 0 0 0 0 0\n= \n! 17 | 0 0 0 0 0 0 0 0 0\n= \n\
+     ! 17 | 0 0 0 0 0 0 0 0 0\n= \n! 17 | 0 0 0 0 0 0 0 0 0\n= \n# 0\n",
+    "# 1 | 1 2 0\n: 1 0 1 1\n\
+     ! 17 | 0 0 0 0 0 0 0 0 0\n= \n! 17 | 0 0 0 0 0 0 0 0 0\n= \n\
+     ! 17 | 0 0 0 0 0 0 0 0 0\n= \n! 17 | 0 0 0 0 0 0 0 0 0\n= \n# 0\n",
+    "# 1 | 1 2 0\n: 1 0 1 1\n\
+     ! 17 | 0 0 0 0 0 0 0 0 0\n= \n! 17 | 0 0 0 0 0 0 0 0 0\n= \n\
+     ! 17 | 0 0 0 0 0 0 0 0 0\n= \n! 17 | 0 0 0 0 0 0 0 0 0\n= \n# 0\n",
+    "# 1 | 1 2 0\n: 1 0 1 1\n\
+     ! 15 | 0 0 0 0 0 0 0 0 0\n= \n! 15 | 0 0 0 0 0 0 0 0 0\n= \n\
+     ! 15 | 0 0 0 0 0 0 0 0 0\n= \n! 15 | 0 0 0 0 0 0 0 0 0\n= \n! 15\n",
+    "# 3 | 5 2 0\n: 0 2 0 3 1 1 1 1 1 3 1 1\n\
+     ! 15 | 0 0 0 0 0 0 0 0 0\n= \n! 15 | 0 0 0 0 0 0 0 0 0\n= \n\
+     ! 15 | 0 0 0 0 0 0 0 0 0\n= \n! 15 | 0 0 0 0 0 0 0 0 0\n= \n! 15\n",
 ];
 
 /// Prints how many of the examples hold; answers whether all do.

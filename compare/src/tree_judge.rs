@@ -51,7 +51,7 @@ impl TreeJudge {
         let mut table = case.fresh_table();
         self.parse(case, &mut table, &mut lines);
         case.store(&mut table);
-        let tree = held(&table[case.first..], case.text.len());
+        let tree = held(&table[case.first..], &case.text);
         let original = tree.as_ref().and_then(|tree| tree_node(tree, &case.text));
         self.write(case, tree.as_ref(), original.as_ref(), &mut lines);
         for threshold in house_thresholds(case) {
@@ -249,10 +249,10 @@ fn original_style(style: Style) -> SerializerStyle<'static> {
     }
 }
 
-/// The crate's node with the atoms' bytes; `None` where they are no `&str`.
+/// The crate's node with the atoms' bytes, which has no kinds; `None` where they are no `&str`.
 fn tree_node(node: &Node, text: &[u8]) -> Option<TreeNode> {
     match node {
-        Node::Atom { place, len } => {
+        Node::Atom { place, len, .. } => {
             let atom = std::str::from_utf8(&text[*place..*place + *len]).ok()?;
             Some(TreeNode::Atom(String::from(atom)))
         }

@@ -1,13 +1,14 @@
 //! Document 01's rules for trees and their tables, as they stand there ("Trees", and the tree calls' order of refusals), with a list's third word as
-//! request 2.6 has it.
+//! request 2.6 has it, and an atom's first word as request 2.3 has it.
 
+use crate::atoms::{is_atom, kind, may_be};
 use crate::reading::{Item, Reader, Record, Refusal};
-use crate::writer_model::{is_atom, Model, Phase};
+use crate::writer_model::{Model, Phase};
 use crate::writing::{Call, Style};
 
 #[derive(Debug, PartialEq, Eq)]
 pub enum Node {
-    Atom { place: usize, len: usize },
+    Atom { kind: u32, place: usize, len: usize },
     List(Vec<Node>),
 }
 
@@ -24,7 +25,7 @@ impl Node {
     fn put_words(&self, back: usize, out: &mut Vec<u32>) {
         let word = |number: usize| u32::try_from(number).expect("a short text");
         match self {
-            Node::Atom { place, len } => out.extend([1, word(*place), word(*len), 1]),
+            Node::Atom { kind, place, len } => out.extend([*kind, word(*place), word(*len), 1]),
             Node::List(children) => {
                 out.extend([0, word(children.len()), word(back), word(self.size())]);
                 let mut back = 1;
@@ -39,7 +40,7 @@ impl Node {
     /// Whether each atom of it is one.
     fn atoms_hold(&self, text: &[u8]) -> bool {
         match self {
-            Node::Atom { place, len } => is_atom(&text[*place..*place + *len]),
+            Node::Atom { place, len, .. } => is_atom(&text[*place..*place + *len]),
             Node::List(children) => children.iter().all(|child| child.atoms_hold(text)),
         }
     }
@@ -92,6 +93,7 @@ pub fn read_node<'a>(reader: &mut impl Reader<'a>) -> Result<Node, Refusal> {
                 continue;
             }
             Item::Atom(place, bytes) => Node::Atom {
+                kind: kind(bytes),
                 place,
                 len: bytes.len(),
             },
@@ -107,31 +109,29 @@ pub fn read_node<'a>(reader: &mut impl Reader<'a>) -> Result<Node, Refusal> {
     }
 }
 
-/// The tree that a table holds over a text of so many bytes. The first node's third word isn't looked at, if it is a list.
-pub fn held(words: &[u32], text_len: usize) -> Option<Node> {
-    node_at(words, 0, None, words.len() / 4, text_len)
+/// The tree that a table holds over a text. The first node's third word isn't looked at, if it is a list.
+pub fn held(words: &[u32], text: &[u8]) -> Option<Node> {
+    node_at(words, 0, None, words.len() / 4, text)
 }
 
 /// Node `at`, whose nodes end before node `end` or with it, and whose parent, if it is a list, lies `back` nodes before it.
-fn node_at(
-    words: &[u32],
-    at: usize,
-    back: Option<usize>,
-    end: usize,
-    text_len: usize,
-) -> Option<Node> {
+fn node_at(words: &[u32], at: usize, back: Option<usize>, end: usize, text: &[u8]) -> Option<Node> {
     let word = |k: usize| words.get(4 * at + k).map(|&word| word as usize);
     let span = word(3)?;
     if span > end.checked_sub(at)? {
         return None;
     }
-    match (word(0)?, word(1)?, word(2)?, span) {
-        (1, place, len, 1) if place + len <= text_len => Some(Node::Atom { place, len }),
+    let kind = *words.get(4 * at)?;
+    match (kind, word(1)?, word(2)?, span) {
+        (1.., place, len, 1) => {
+            let bytes = text.get(place..place + len)?;
+            may_be(kind, bytes).then_some(Node::Atom { kind, place, len })
+        }
         (0, count, third, 1..) if back.is_none_or(|back| back == third) => {
             let mut children = Vec::new();
             let mut next = at + 1;
             for _ in 0..count {
-                let child = node_at(words, next, Some(next - at), at + span, text_len)?;
+                let child = node_at(words, next, Some(next - at), at + span, text)?;
                 next += child.size();
                 children.push(child);
             }
@@ -144,7 +144,7 @@ fn node_at(
 /// A tree's calls at the threshold. A list's first child, if an atom, gets the largest one.
 fn put_calls(node: &Node, text: &[u8], threshold: u64, out: &mut Vec<Call>) {
     match node {
-        Node::Atom { place, len } => {
+        Node::Atom { place, len, .. } => {
             let atom = text[*place..*place + *len].to_vec();
             out.push(Call::PutAtom(atom, threshold));
         }

@@ -1,5 +1,6 @@
 //! Document 01's rules for the writer, as they stand there, without the depth limit that request 2.6 takes away.
 
+use crate::atoms::is_atom;
 use crate::writing::{Call, Style};
 
 const LIMIT: usize = 16_777_216;
@@ -182,36 +183,5 @@ impl Model {
             self.indents,
             self.broken()
         )
-    }
-}
-
-/// One or more atom characters and strings; a string is two quotes about string characters and pairs that begin with `\`.
-pub fn is_atom(bytes: &[u8]) -> bool {
-    let mut rest = bytes;
-    while let Some((&first, after)) = rest.split_first() {
-        let piece = match first {
-            b'"' => string_end(after),
-            b'0'..=b'9' | b'A'..=b'Z' | b'a'..=b'z' => Some(after),
-            _ if b"!#$%&*+-./:<=>?@_~".contains(&first) => Some(after),
-            _ => None,
-        };
-        let Some(after) = piece else {
-            return false;
-        };
-        rest = after;
-    }
-    !bytes.is_empty()
-}
-
-/// What follows the quote that ends a string, if one does.
-fn string_end(mut rest: &[u8]) -> Option<&[u8]> {
-    loop {
-        rest = match rest {
-            [b'"', after @ ..] => return Some(after),
-            [b'\\', b' '..=b'~', after @ ..] => after,
-            [b'\\', ..] => return None,
-            [b' '..=b'~', after @ ..] => after,
-            _ => return None,
-        };
     }
 }

@@ -56,6 +56,14 @@ static void check_atoms(void) {
     printf("sise_check_atom: %u\n", (unsigned)sise_check_atom(BYTES("x y")));
 }
 
+/* An atom of each kind, and no atom. */
+static void print_kinds(void) {
+    printf("sise_atom_kind: %u\n", (unsigned)sise_atom_kind(BYTES("x")));
+    printf("sise_atom_kind: %u\n", (unsigned)sise_atom_kind(BYTES("\"a b\"")));
+    printf("sise_atom_kind: %u\n", (unsigned)sise_atom_kind(BYTES("x\"y\"")));
+    printf("sise_atom_kind: %u\n", (unsigned)sise_atom_kind(BYTES("x y")));
+}
+
 /* Reads the profile into the table, and a text that is refused into none of it. */
 static void read_table(uint32_t table[4 * NODES + 1]) {
     uint64_t values[2] = {UNTOUCHED, UNTOUCHED};
@@ -148,6 +156,7 @@ static void read_longest(void) {
 int main(void) {
     uint32_t table[4 * NODES + 1];
     check_atoms();
+    print_kinds();
     read_table(table);
     find_node(table);
     write_table(table);

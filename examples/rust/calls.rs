@@ -62,6 +62,15 @@ fn check_atoms() {
     println!("sise_check_atom: {}", number(sise::check_atom(b"x y")));
 }
 
+/// An atom of each kind, and no atom.
+fn print_kinds() {
+    let atoms: [&[u8]; 4] = [b"x", b"\"a b\"", b"x\"y\"", b"x y"];
+    for atom in atoms {
+        let number = sise::atom_kind(atom).map_or(0, |kind| kind as u32);
+        println!("sise_atom_kind: {number}");
+    }
+}
+
 /// Reads the profile into a table, and a text that is refused into none of it.
 fn read_table() -> Vec<u32> {
     let mut table = vec![u32::from(UNTOUCHED); 4 * NODES + 1];
@@ -128,6 +137,7 @@ fn read_longest() {
 
 fn main() {
     check_atoms();
+    print_kinds();
     let table = read_table();
     let node = sise::index_path(&table, PROFILE, &[1, 0]);
     print_result("sise_index_path", node);

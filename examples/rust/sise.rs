@@ -112,13 +112,36 @@ impl Style<'static> {
     };
 }
 
+/// Which atom some bytes are. Its number is the first word of such an atom in a table.
+#[derive(Clone, Copy, Debug, PartialEq, Eq)]
+pub enum AtomKind {
+    /// No `"` is in it.
+    Plain = 1,
+    /// It is one whole string.
+    String = 2,
+    /// Any other atom.
+    Mixed = 3,
+}
+
 /// Whether the bytes are an atom.
 pub fn check_atom(atom: &[u8]) -> Result<(), Refusal> {
     // Here and below, the slices live as long as the call, which keeps nothing, and what it writes is borrowed by nobody else.
     answered(|_| unsafe { raw::sise_check_atom(atom.as_ptr(), atom.len()) }).map(|_| ())
 }
 
-/// Reads a whole text into the table: the number of its nodes. `4 * text.len()` words are always enough.
+/// Which atom the bytes are, or `None` if they are no atom.
+pub fn atom_kind(atom: &[u8]) -> Option<AtomKind> {
+    match unsafe { raw::sise_atom_kind(atom.as_ptr(), atom.len()) } {
+        0 => None,
+        1 => Some(AtomKind::Plain),
+        2 => Some(AtomKind::String),
+        3 => Some(AtomKind::Mixed),
+        number => unreachable!("no atom is of the kind {number}"),
+    }
+}
+
+/// Reads a whole text into the table: the number of its nodes. `4 * text.len()` words are always enough. A node is four words, the first of them 0 of a
+/// list and the number of its `AtomKind` of an atom. The calls that take a table refuse it where an atom has the number of another kind.
 pub fn parse_tree(text: &[u8], table: &mut [u32]) -> Result<usize, Refusal> {
     answered(|values| unsafe {
         raw::sise_parse_tree(
@@ -260,6 +283,8 @@ fn answered(call: impl FnOnce(*mut [u64; 2]) -> u32) -> Result<usize, Refusal> {
 mod raw {
     extern "C" {
         pub fn sise_check_atom(atom: *const u8, atom_len: usize) -> u32;
+
+        pub fn sise_atom_kind(atom: *const u8, atom_len: usize) -> u32;
 
         pub fn sise_parse_tree(
             text: *const u8,

@@ -7,6 +7,7 @@
 ghost use Prim.Native.Nat.{_<_};
 use libc::STDIN_FILENO;
 use lines::Block;
+use sise_util::AtomKind;
 use sise_util::Character;
 use sise_util::classes::class_of;
 
@@ -16,6 +17,11 @@ fn put_answer(out: &mut Block, at: usize, yes: bool) -> usize {
     } else {
         lines::put_byte(out, at, b'0')
     }
+}
+
+// 1, 2 or 3, and 0 for no atom.
+fn put_kind(out: &mut Block, at: usize, kind: AtomKind) -> usize {
+    lines::put_decimal(out, at, kind.number() as u64)
 }
 
 fn put_length(out: &mut Block, at: usize, len: usize) -> usize {
@@ -52,10 +58,10 @@ fn put_prefixes(out: &mut Block, from: usize, case: &[u8]) -> usize {
     let mut at = from;
     let mut len = 0;
     while len <= case.len() {
-        at = put_answer(out, at, sise_util::check_atom_prefix(case, len));
+        at = put_kind(out, at, sise_util::check_atom_prefix(case, len));
         len += 1;
     }
-    put_answer(out, at, sise_util::check_atom_prefix(case, len))
+    put_kind(out, at, sise_util::check_atom_prefix(case, len))
 }
 
 // The character at each place, one past the case last.
@@ -70,7 +76,7 @@ fn put_characters(out: &mut Block, from: usize, case: &[u8]) -> usize {
 }
 
 fn put_case_line(out: &mut Block, at: usize, case: &[u8]) -> usize {
-    let at = put_answer(out, at, sise_util::check_atom(case));
+    let at = put_kind(out, at, sise_util::check_atom(case));
     let at = lines::put_byte(out, at, b' ');
     let at = put_prefixes(out, at, case);
     let at = put_characters(out, at, case);

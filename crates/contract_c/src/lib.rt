@@ -1,5 +1,6 @@
 // Every exported call of sise_c, by its name without `sise_`, under the contract that it has there and with a body that only calls it: the promises of the
 // library on one page. An edit of must-fail/ puts a wrong program in the place of a body, and the contract has to refuse it.
+use sise_c::sise_atom_kind;
 use sise_c::sise_check_atom;
 use sise_c::sise_index_path;
 use sise_c::sise_measure_tree;
@@ -8,7 +9,7 @@ use sise_c::sise_read_items;
 use sise_c::sise_serialize_tree;
 use sise_c::sise_write_calls;
 ghost use mathlib.Core.Path.{_≡_};
-ghost use Rattle.sise_util.specs.Atom.{isAtom};
+ghost use Rattle.sise_util.specs.Atom.{isAtom, kindOf, kindNumber};
 ghost use Rattle.sise_serializer.specs.Serializer.{style};
 ghost use Rattle.sise_serializer.specs.Words.{WritesCalls};
 ghost use Rattle.sise_tree.specs.IndexPath.{indexPath};
@@ -25,6 +26,13 @@ pub fn check_atom(atom: &[u8]) -> u32
     ensures { λ r. ⌜ r ≡ checked (isAtom (now (atom .entry))) ⌝ }
 {
     sise_check_atom(atom)
+}
+
+// Which atom the bytes are: 1 plain, 2 one whole string, 3 any other atom, and 0 no atom.
+pub fn atom_kind(atom: &[u8]) -> u32
+    ensures { λ r. ⌜ r ≡ kindNumber (kindOf (now (atom .entry))) ⌝ }
+{
+    sise_atom_kind(atom)
 }
 
 // Reads a whole text, which is one node, into the table. The first value is how many nodes it has.

@@ -1,12 +1,14 @@
 // Every public call of sise_tree, under the contract that it has there and with a body that only calls it: the promises of the library on one page. An
 // edit of must-fail/ puts a wrong program in the place of a body, and the contract has to refuse it.
 use sise_parser::Reader;
+use sise_tree::Held;
 use sise_tree::Indexed;
 use sise_tree::ParsedTree;
 use sise_tree::TreeRead;
 ghost use mathlib.Core.Path.{_≡_};
 ghost use Prim.Native.Nat.{_<_, _^_};
-ghost use Rattle.sise_tree.specs.Decision.{decide, isSome};
+ghost use Rattle.sise_tree.specs.Decision.{decide};
+ghost use Rattle.sise_tree.specs.Held.{heldAs};
 ghost use Rattle.sise_tree.specs.IndexPath.{indexPath};
 ghost use Rattle.sise_tree.specs.Answers.{indexedAs, parsedAs, numberOf, placeOf, codeOf};
 ghost use Rattle.sise_tree.specs.ParseTree.{parseTree, DoesParse};
@@ -67,11 +69,11 @@ pub fn indexed_number(indexed: Indexed) -> u32
     indexed.number()
 }
 
-// Whether the table holds a tree over a text of `text_len` bytes.
-pub fn holds_tree(text_len: usize, table: &[u32]) -> bool
-    ensures { λ r. ⌜ r ≡ isSome (decide «text_len» (now (table .entry))) ⌝ }
+// What the table holds over the text: a tree of atoms, a tree with an atom that is none, or no tree.
+pub fn holds_tree(text: &[u8], table: &[u32]) -> Held
+    ensures { λ r. ⌜ r ≡ heldAs (now (text .entry)) (decide (now (text .entry)) (now (table .entry))) ⌝ }
 {
-    sise_tree::holds_tree(text_len, table)
+    sise_tree::holds_tree(text, table)
 }
 
 // A word of a table as an index.

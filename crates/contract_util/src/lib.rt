@@ -1,11 +1,12 @@
 // Every public call of sise_util, under the contract that it has there and with a body that only calls it: the promises of the library on one page. An
 // edit of must-fail/ puts a wrong program in the place of a body, and the contract has to refuse it.
+use sise_util::AtomKind;
 use sise_util::Character;
 use sise_util::classes::ClassTable;
 ghost use mathlib.Core.Path.{_≡_};
 ghost use lib.ListN.{drop};
 ghost use Rattle.sise_util.specs.Chars.{isAtomChr, isStringChr};
-ghost use Rattle.sise_util.specs.Atom.{isAtom, isPlain, isAtomPrefix};
+ghost use Rattle.sise_util.specs.Atom.{isPlain, kindOf, kindPrefix, kindNumber, isKind};
 ghost use Rattle.sise_util.specs.Classes.{classOf, classNumber, classTable};
 ghost use Rattle.sise_util.specs.Utf8.{character};
 
@@ -39,18 +40,32 @@ pub fn is_plain(atom: &[u8]) -> bool
     sise_util::is_plain(atom)
 }
 
-// Whether `atom` is an atom.
-pub fn check_atom(atom: &[u8]) -> bool
-    ensures { λ r. ⌜ r ≡ isAtom (now (atom .entry)) ⌝ }
+// Which atom `atom` is.
+pub fn check_atom(atom: &[u8]) -> AtomKind
+    ensures { λ r. ⌜ r ≡ kindOf (now (atom .entry)) ⌝ }
 {
     sise_util::check_atom(atom)
 }
 
-// Whether the first `len` bytes of `rest` are an atom; a length past its end is none.
-pub fn check_atom_prefix(rest: &[u8], len: usize) -> bool
-    ensures { λ r. ⌜ r ≡ isAtomPrefix (now (rest .entry)) len ⌝ }
+// Which atom the first `len` bytes of `rest` are; a length past its end is none.
+pub fn check_atom_prefix(rest: &[u8], len: usize) -> AtomKind
+    ensures { λ r. ⌜ r ≡ kindPrefix (now (rest .entry)) len ⌝ }
 {
     sise_util::check_atom_prefix(rest, len)
+}
+
+// The first word of such an atom in a table, and 0 for no atom.
+pub fn kind_number(kind: AtomKind) -> u32
+    ensures { λ r. ⌜ r ≡ kindNumber kind ⌝ }
+{
+    kind.number()
+}
+
+// Whether it is an atom at all.
+pub fn kind_is_atom(kind: AtomKind) -> bool
+    ensures { λ r. ⌜ r ≡ isKind kind ⌝ }
+{
+    kind.is_atom()
 }
 
 // ---- classes.rt

@@ -68,7 +68,7 @@ fn table_full(out: &mut Block, at: usize) -> usize {
 
 // A first word that no node has.
 fn no_tree(out: &mut Block, at: usize) -> usize {
-    let table = [2u32, 0, 1, 1];
+    let table = [4u32, 0, 1, 1];
     put_indexed(out, at, b"row 15", index_path(&table, b"a", &[]))
 }
 

@@ -20,7 +20,7 @@ use sise_tree_writer::measure_text;
 use sise_tree_writer::write_text;
 use sise_util::check_atom;
 ghost use mathlib.Core.Path.{_≡_};
-ghost use Rattle.sise_util.specs.Atom.{isAtom};
+ghost use Rattle.sise_util.specs.Atom.{isAtom, kindOf, kindNumber};
 ghost use Rattle.sise_serializer.specs.Serializer.{style};
 ghost use Rattle.sise_serializer.specs.Words.{WritesCalls};
 ghost use Rattle.sise_tree.specs.IndexPath.{indexPath};
@@ -34,7 +34,17 @@ ghost use Rattle.sise_c.specs.Items.{readItems};
 pub extern "C" fn sise_check_atom(atom: &[u8]) -> u32
     ensures { λ r. ⌜ r ≡ checked (isAtom (now (atom .entry))) ⌝ }
 {
-    if check_atom(atom) { 0 } else { 17 }
+    let kind = check_atom(atom);
+    if kind.is_atom() { 0 } else { 17 }
+}
+
+// Which atom the bytes are: 1 plain, with no `"` in it, 2 one whole string, 3 any other atom, and 0 no atom. It is the first word of such an atom in a table.
+#[no_mangle]
+pub extern "C" fn sise_atom_kind(atom: &[u8]) -> u32
+    ensures { λ r. ⌜ r ≡ kindNumber (kindOf (now (atom .entry))) ⌝ }
+{
+    let kind = check_atom(atom);
+    kind.number()
 }
 
 // Reads a whole text, which is one node, into the table. The first value is how many nodes it has.

@@ -273,7 +273,8 @@ fn is_atom(atom: &[u8]) -> bool
     if is_plain(atom) {
         return true;
     }
-    check_atom(atom)
+    let kind = check_atom(atom);
+    kind.is_atom()
 }
 
 pub(crate) fn write_atom(

@@ -9,7 +9,7 @@ use Rattle.sise_parser.specs.Reader.{item, refused, next, nextItem}
 use Rattle.sise_parser.specs.declared.reader.Reader.{Reader}
 use Rattle.sise_parser.specs.declared.reader.ParsedItem.{ParsedItem}
 use Rattle.sise_parser.specs.declared.reader.ParsedItem.the-variants.{Atom, ListStart, ListEnd}
-use Rattle.sise_tree.specs.Tree.{Node, atom, list, empty, size, sizes}
+use Rattle.sise_tree.specs.Tree.{kindAt, Node, atom, list, empty, size, sizes}
 use Rattle.sise_tree.specs.Answers as answers
 use Rattle.sise_tree.specs.Answers.{parsedAs}
 use Rattle.sise_tree.specs.ParseTree.{Frames, top, _▹_, inside, whole, snoc, attach, close, turn, readStage, readNode}
@@ -43,11 +43,11 @@ module _ (text : List ℕ) (r₀ : Reader) where
 
   -- where it is known what the item makes of the open lists
   module _ {f : Frames} {r : Reader} {depth nodes : ℕ} (h : Counts text r₀ f r depth nodes) {q : Reader} {i : ParsedItem} (e : nextItem text r ≡ next q (item i)) where
-    ends : {n : Node} {k : ℕ} → turn f i ≡ whole n → k ≡ size n → DoesCount (readNode text r₀) (record { reader = q; answer = NodesRead k })
+    ends : {n : Node} {k : ℕ} → turn text f i ≡ whole n → k ≡ size n → DoesCount (readNode text r₀) (record { reader = q; answer = NodesRead k })
     unfolding readStage
     ends t z = let x = turned text r₀ (h .stands) e t in record { reader = ap readerOf x; answer = ap answers.answered z ∙ ap counted x }
 
-    goes : {g : Frames} {d k : ℕ} → turn f i ≡ inside g → d ≡ opened g → k ≡ filled g → k ≤ nodes + 1 → Counts text r₀ g q d k
+    goes : {g : Frames} {d k : ℕ} → turn text f i ≡ inside g → d ≡ opened g → k ≡ filled g → k ≤ nodes + 1 → Counts text r₀ g q d k
     goes t dz kz le = record { stands = stands-on text r₀ (h .stands) e t dz; many = kz; early = omega (arith, h .early, took text r e .moves) }
 
   module _ {f : Frames} {r : Reader} {depth nodes : ℕ} (h : Counts text r₀ f r depth nodes) where
@@ -68,13 +68,13 @@ module _ (text : List ℕ) (r₀ : Reader) where
     module _ {q : Reader} {p n : ℕ} (e : nextItem text r ≡ next q (item (Atom p n))) where
       pub atom-ends : depth ≡ 0 → DoesCount (readNode text r₀) (record { reader = q; answer = NodesRead (nodes + 1) })
       unfolding turn size
-      atom-ends z = let (t, none) = attach-out f (atom p n) (sym (h .stands .deep) ∙ z) in ends h e t (omega (arith, h .many))
+      atom-ends z = let (t, none) = attach-out f (atom (kindAt text p n) p n) (sym (h .stands .deep) ∙ z) in ends h e t (omega (arith, h .many))
 
       pub atom-goes : (depth ≡ 0 → ⊥) → (g : Frames) × Counts text r₀ g q depth (nodes + 1)
       unfolding turn size filledIn
       atom-goes z =
-          attach-in f (atom p n) (λ d. z (h .stands .deep ∙ d)) λ g t o.
-          let m : filled g ≡ filled f + 1 = ap filledIn (sym t) ∙ attach-filled f (atom p n) in
+          attach-in f (atom (kindAt text p n) p n) (λ d. z (h .stands .deep ∙ d)) λ g t o.
+          let m : filled g ≡ filled f + 1 = ap filledIn (sym t) ∙ attach-filled f (atom (kindAt text p n) p n) in
           (g, goes h e t (h .stands .deep ∙ sym o) (omega (arith, h .many)) (omega arith))
 
   -- a list's end leaves a node that is attached where its list began

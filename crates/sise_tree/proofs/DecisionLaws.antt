@@ -7,13 +7,13 @@ use mathlib.Core.Path.{_≡_, refl, sym, _∙_}
 use mathlib.Core.Bool.{Bool, true, false}
 use mathlib.Core.Option.{Option, none, some, Option·some-injective}
 use mathlib.Core.List.{List, [], _∷_, _++_, append-assoc, append-nil}
-use lib.Dec.{leb, eqb}
+use lib.Dec.{eqb}
 use lib.ListN.{length, drop}
-use borrow.Author.Tests.{eqb-true, eq-eqb}
+use borrow.Author.Tests.{eqb-true, eq-eqb, ne-eqb}
 use Rattle.sise_util.proofs.Ranges.{split, both}
-use Rattle.sise_tree.specs.Tree.{Node, atom, list, Nodes, empty, _then_, size, sizes, children, tableAt, tables, lies, liesAll, second, Holds}
+use Rattle.sise_tree.specs.Tree.{Node, atom, list, Nodes, empty, _then_, size, sizes, children, tableAt, tables, sits, lies, liesAll, second, Holds}
 use Rattle.sise_tree.specs.Decision.{guard, bind, Read, ahead, row, only, decide}
-use Rattle.sise_tree.proofs.TreeLaws.{anded, row-holds, holds-words, words-after, holds-fits}
+use Rattle.sise_tree.proofs.TreeLaws.{anded, sits-kind, row-holds, holds-words, words-after, holds-fits}
 
 none-some : {A B : Type 0} {a : A} → _≡_ {A = Option A} none (some a) → B
 none-some h = let z : _≡_ {A = ℕ} 0 1 = cc in absurd (omega arith)
@@ -30,23 +30,23 @@ bound {x = none} h k = none-some h
 bound {x = some a} h k = k a refl h
 
 -- what was read of the words: so many nodes, the first of which stands d nodes behind their parent, and whose atoms lie in the text
-record Spelt (l d c : ℕ) (ws : List ℕ) (r : Read) : Type 0 where
+record Spelt (l : List ℕ) (d c : ℕ) (ws : List ℕ) (r : Read) : Type 0 where
   words : ws ≡ tables d (r .nodes) ++ r .rest
   count : children (r .nodes) ≡ c
   inText : liesAll l (r .nodes) ≡ true
 
-spelt-none : (l d : ℕ) (ws : List ℕ) → Spelt l d 0 ws (record { nodes = empty; rest = ws })
+spelt-none : (l : List ℕ) (d : ℕ) (ws : List ℕ) → Spelt l d 0 ws (record { nodes = empty; rest = ws })
 unfolding tables children liesAll
 spelt-none l d ws = record { words = refl; count = refl; inText = refl }
 
 spelt-atom :
-    {l d c : ℕ} (a b : ℕ) {k s : ℕ} {ws : List ℕ} {r : Read} → k ≡ 1 → s ≡ 1 → leb (a + b) l ≡ true → Spelt l (d + 1) c ws r
-    → Spelt l d (suc c) (k ∷ a ∷ b ∷ s ∷ ws) (ahead (atom a b) r)
+    {l : List ℕ} {d c : ℕ} (k a b : ℕ) {s : ℕ} {ws : List ℕ} {r : Read} → s ≡ 1 → sits l k a b ≡ true → Spelt l (d + 1) c ws r
+    → Spelt l d (suc c) (k ∷ a ∷ b ∷ s ∷ ws) (ahead (atom k a b) r)
 unfolding ahead size tableAt tables children lies liesAll
-spelt-atom a b ek es t h = record { words = cc (h .words); count = omega (arith, h .count); inText = both _ _ t (h .inText) }
+spelt-atom k a b es t h = record { words = cc (h .words); count = omega (arith, h .count); inText = both _ _ t (h .inText) }
 
 spelt-list :
-    {l d c a b k s : ℕ} {ws : List ℕ} {r q : Read} → k ≡ 0 → b ≡ d → s ≡ 1 + sizes (r .nodes) → Spelt l 1 a ws r → Spelt l (d + s) c (r .rest) q
+    {l : List ℕ} {d c a b k s : ℕ} {ws : List ℕ} {r q : Read} → k ≡ 0 → b ≡ d → s ≡ 1 + sizes (r .nodes) → Spelt l 1 a ws r → Spelt l (d + s) c (r .rest) q
     → Spelt l d (suc c) (k ∷ a ∷ b ∷ s ∷ ws) (ahead (list (r .nodes)) q)
 unfolding ahead size tableAt tables children lies liesAll
 spelt-list {d} {r} {q} ek eb es h g =
@@ -56,7 +56,7 @@ spelt-list {d} {r} {q} ek eb es h g =
       inText = both _ _ (h .inText) (g .inText);
     }
 
-row-sound : (f l d c : ℕ) (ws : List ℕ) {r : Read} → row f l d c ws ≡ some r → Spelt l d c ws r
+row-sound : (f : ℕ) (l : List ℕ) (d c : ℕ) (ws : List ℕ) {r : Read} → row f l d c ws ≡ some r → Spelt l d c ws r
 unfolding row
 row-sound zero l d c ws h = none-some h
 row-sound (suc f) l d zero ws h = rw (Option·some-injective _ _ h) at (spelt-none l d ws)
@@ -65,29 +65,28 @@ row-sound (suc f) l d (suc c) (k ∷ []) h = none-some h
 row-sound (suc f) l d (suc c) (k ∷ a ∷ []) h = none-some h
 row-sound (suc f) l d (suc c) (k ∷ a ∷ b ∷ []) h = none-some h
 row-sound (suc f) l d (suc c) (k ∷ a ∷ b ∷ s ∷ ws) h =
-    split (eqb k 1)
+    split (eqb k 0)
     (λ ek.
-    guarded (rw (ek, row) at h) λ es x.
-    guarded x λ t y.
-    bound y λ r i o.
-    rw (Option·some-injective _ _ o) at (spelt-atom a b (eqb-true k 1 ek) (eqb-true s 1 es) t (row-sound f l (d + 1) c ws i)))
-    (λ ek.
-    guarded (rw (ek, row) at h) λ ez x.
-    guarded x λ eb y.
+    guarded (rw (ek, row) at h) λ eb y.
     bound y λ r i z.
     guarded z λ es v.
     bound v λ q j o.
     rw (Option·some-injective _ _ o) at
-    (spelt-list (eqb-true k 0 ez) (eqb-true b d eb) (eqb-true s _ es) (row-sound f l 1 a ws i) (row-sound f l (d + s) c (r .rest) j)))
+    (spelt-list (eqb-true k 0 ek) (eqb-true b d eb) (eqb-true s _ es) (row-sound f l 1 a ws i) (row-sound f l (d + s) c (r .rest) j)))
+    (λ ek.
+    guarded (rw (ek, row) at h) λ es x.
+    guarded x λ t y.
+    bound y λ r i o.
+    rw (Option·some-injective _ _ o) at (spelt-atom k a b (eqb-true s 1 es) t (row-sound f l (d + 1) c ws i)))
 
 row-complete :
-    (f l d : ℕ) (ns : Nodes) (rest : List ℕ) → liesAll l ns ≡ true → sizes ns < f
+    (f : ℕ) (l : List ℕ) (d : ℕ) (ns : Nodes) (rest : List ℕ) → liesAll l ns ≡ true → sizes ns < f
     → row f l d (children ns) (tables d ns ++ rest) ≡ some (record { nodes = ns; rest = rest })
 unfolding row ahead guard bind size sizes children tableAt tables lies liesAll
 row-complete zero l d ns rest t u = absurd (omega arith)
 row-complete (suc f) l d empty rest t u = refl
-row-complete (suc f) l d (atom p n then ns) rest t u =
-    anded {a = leb (p + n) l} t λ here more. rw (one-add (children ns), here, row-complete f l (d + 1) ns rest more (omega arith))
+row-complete (suc f) l d (atom k p n then ns) rest t u =
+    anded {a = sits l k p n} t λ here more. rw (one-add (children ns), ne-eqb k 0 (sits-kind l k p n here), row, here, row-complete f l (d + 1) ns rest more (omega arith))
 row-complete (suc f) l d (list cs then ns) rest t u =
     anded {a = liesAll l cs} t λ inside more.
     let next = d + (1 + sizes cs) in
@@ -100,7 +99,7 @@ row-complete (suc f) l d (list cs then ns) rest t u =
       row-complete f l next ns rest more (omega arith),
     )
 
-pub decide-sound : {l : ℕ} {words : List ℕ} {n : Node} → decide l words ≡ some n → Holds l words n
+pub decide-sound : {l : List ℕ} {words : List ℕ} {n : Node} → decide l words ≡ some n → Holds l words n
 unfolding decide only
 decide-sound {l} {words} {n} h =
     bound h λ r i o.
@@ -108,7 +107,7 @@ decide-sound {l} {words} {n} h =
     let (m, one, holds) = row-holds (second words 0) (r .nodes) (r .rest) (s .count) (s .words) (s .inText) in
     rw (Option·some-injective m n (rw one at o)) at holds
 
-pub decide-complete : {l : ℕ} {words : List ℕ} {n : Node} → Holds l words n → decide l words ≡ some n
+pub decide-complete : {l : List ℕ} {words : List ℕ} {n : Node} → Holds l words n → decide l words ≡ some n
 unfolding decide only bind size sizes children tableAt tables lies liesAll
 decide-complete {l} {words} {n} h =
     let d = second words 0 in
@@ -118,9 +117,9 @@ decide-complete {l} {words} {n} h =
     rw (rw e at (row-complete (suc (length words)) l d (n then empty) rest (both _ _ (h .inText) refl) u))
 
 -- whatever its distance to a parent is, and the words after its table
-pub decide-after : (l d : ℕ) (n : Node) (rest : List ℕ) → lies l n ≡ true → decide l (tableAt d n ++ rest) ≡ some n
+pub decide-after : (l : List ℕ) (d : ℕ) (n : Node) (rest : List ℕ) → lies l n ≡ true → decide l (tableAt d n ++ rest) ≡ some n
 decide-after l d n rest t = decide-complete (words-after l d n rest t)
 
 -- so the words hold one tree at most
-pub holds-once : {l : ℕ} {words : List ℕ} {n m : Node} → Holds l words n → Holds l words m → n ≡ m
+pub holds-once : {l : List ℕ} {words : List ℕ} {n m : Node} → Holds l words n → Holds l words m → n ≡ m
 holds-once h g = Option·some-injective _ _ (sym (decide-complete h) ∙ decide-complete g)

@@ -8,7 +8,7 @@ use Rattle.sise_parser.specs.Reader.{item, next, nextItem}
 use Rattle.sise_parser.specs.declared.reader.Reader.{Reader}
 use Rattle.sise_parser.specs.declared.reader.ParsedItem.{ParsedItem}
 use Rattle.sise_parser.specs.declared.reader.ParsedItem.the-variants.{Atom, ListStart, ListEnd}
-use Rattle.sise_tree.specs.Tree.{Node, Nodes, empty, _then_}
+use Rattle.sise_tree.specs.Tree.{Node, atom, Nodes, empty, _then_}
 use Rattle.sise_tree.specs.ParseTree.{Frames, top, _▹_, Stage, inside, whole, closes, snoc, attach, close, turn, got, readStage, readNode}
 use Rattle.sise_tree.specs.Filling.{readerOf}
 use Rattle.sise_tree.specs.Descent.{ReadsNode, one, many, ReadsNodes, none, more}
@@ -35,7 +35,7 @@ module _ (text : List ℕ) where
     unfolding turn attach close readStage join
 
     node-read : {r q : Reader} {n : Node} → ReadsNode text r n q → (f : Frames) → readOn text r f ≡ readStage (readOn text q) q (attach f n)
-    node-read {r} (one e) f = read-item text r f e
+    node-read {r} {q} (one {p = p} {n = m} e k) f = read-item text r f e ∙ ap (λ (w : ℕ). readStage (readOn text q) q (attach f (atom w p m))) (sym k)
     node-read {r} (many {t = t} {c = c} e d z) f = read-item text r f e ∙ nodes-read d f empty ∙ read-item text t (f ▹ c) z
 
     nodes-read : {r q : Reader} {c : Nodes} → ReadsNodes text r c q → (f : Frames) (d : Nodes) → readOn text r (f ▹ d) ≡ readOn text q (f ▹ join d c)
@@ -72,9 +72,9 @@ module _ (text : List ℕ) where
     attach-opened top {q = q} {n = n} o h = subst (λ (r : Reader). ReadsNode text r n q) o h
     attach-opened (f ▹ c) (s, t, p, o, e, l) h = (s, t, p, o, e, snoc-reads l h)
 
-    turn-opened : (f : Frames) (i : ParsedItem) (r : Reader) {q : Reader} → Opened f r → nextItem text r ≡ next q (item i) → OpenedIn (turn f i) q
+    turn-opened : (f : Frames) (i : ParsedItem) (r : Reader) {q : Reader} → Opened f r → nextItem text r ≡ next q (item i) → OpenedIn (turn text f i) q
     unfolding turn close
-    turn-opened f (Atom p n) r o e = attach-opened f o (one e)
+    turn-opened f (Atom p n) r o e = attach-opened f o (one e refl)
     turn-opened f (ListStart p) r {q} o e = (r, q, p, o, e, none)
     turn-opened top (ListEnd p) r o e = tt
     turn-opened (f ▹ c) (ListEnd p) r (s, t, b, o, d, l) e = attach-opened f o (many d l e)

@@ -11,7 +11,7 @@ use Rattle.sise_parser.specs.Reader.{item, next, nextItem}
 use Rattle.sise_parser.specs.declared.reader.Phase.{Phase}
 use Rattle.sise_parser.specs.declared.reader.Reader.{Reader}
 use Rattle.sise_parser.specs.declared.reader.ParsedItem.the-variants.{Atom, ListStart, ListEnd}
-use Rattle.sise_tree.specs.Tree.{Node, atom, list, empty}
+use Rattle.sise_tree.specs.Tree.{kindAt, Node, atom, list, empty}
 use Rattle.sise_tree.specs.ParseTree.{Frames, top, _▹_, inside, close, turn}
 use Rattle.sise_tree.specs.Filling.{opened, readerAt, mark, Shows, Fits, Fillable, Fills, Filling}
 use Rattle.sise_tree.specs.declared.parse.Mark.{Mark}
@@ -24,10 +24,10 @@ abbrev pub filled : ℕ → ℕ → ℕ → ℕ → Filled
 filled p d i j = record { position = p; depth = d; next = i; parent = j }
 
 -- a list that is not the outermost closes inside another
-close-in : {C : Type 0} (f : Frames) (p : ℕ) → (opened f ≡ 0 → ⊥) → (opened f ≡ 1 → ⊥) → ((g : Frames) → turn f (ListEnd p) ≡ inside g → C) → C
+close-in : {C : Type 0} (text : List ℕ) (f : Frames) (p : ℕ) → (opened f ≡ 0 → ⊥) → (opened f ≡ 1 → ⊥) → ((g : Frames) → turn text f (ListEnd p) ≡ inside g → C) → C
 unfolding turn close opened
-close-in top p some more k = absurd (some refl)
-close-in (f ▹ c) p some more k = attach-in f (list c) (λ z. more (omega arith)) λ g t o. k g t
+close-in text top p some more k = absurd (some refl)
+close-in text (f ▹ c) p some more k = attach-in f (list c) (λ z. more (omega arith)) λ g t o. k g t
 
 module _ (text w₀ : List ℕ) (r₀ : Reader) {n : Node} {q₀ : Reader} {h : Phase} {f : Frames} {words : List ℕ} {p d i j : ℕ} (a : Filling text w₀ r₀ n q₀ h f words (filled p d i j)) where
   -- a list's start at s
@@ -35,11 +35,11 @@ module _ (text w₀ : List ℕ) (r₀ : Reader) {n : Node} {q₀ : Reader} {h : 
     start-item : nextItem text (readerAt r₀ p h d) ≡ next (readerAt r₀ (s + 1) h (d + 1)) (item (ListStart s))
     start-item = plain-start text r₀ (a .fills .stands) (a .some) t
 
-    pub start-fits : Fits (length words) f (ListStart s) (s + 1)
+    pub start-fits : Fits text (length words) f (ListStart s) (s + 1)
     start-fits = item-fits text w₀ r₀ (a .known) (a .fills) start-item
 
     pub start-on :
-        {now : List ℕ} {k l : ℕ} → Shows w₀ (turn f (ListStart s)) now (mark k l) → length now ≡ length words
+        {now : List ℕ} {k l : ℕ} → Shows w₀ (turn text f (ListStart s)) now (mark k l) → length now ≡ length words
         → (g : Frames) × Filling text w₀ r₀ n q₀ h g now (filled (s + 1) (d + 1) k l)
     unfolding turn opened
     start-on x e =
@@ -50,17 +50,17 @@ module _ (text w₀ : List ℕ) (r₀ : Reader) {n : Node} {q₀ : Reader} {h : 
     end-item : nextItem text (readerAt r₀ p h d) ≡ next (readerAt r₀ (s + 1) h (d - 1)) (item (ListEnd s))
     end-item = plain-end text r₀ (a .fills .stands) (a .some) t more
 
-    pub end-fits : Fits (length words) f (ListEnd s) (s + 1)
+    pub end-fits : Fits text (length words) f (ListEnd s) (s + 1)
     end-fits = item-fits text w₀ r₀ (a .known) (a .fills) end-item
 
     pub end-on :
-        {now : List ℕ} {k l : ℕ} → Shows w₀ (turn f (ListEnd s)) now (mark k l) → length now ≡ length words
+        {now : List ℕ} {k l : ℕ} → Shows w₀ (turn text f (ListEnd s)) now (mark k l) → length now ≡ length words
         → (g : Frames) × Filling text w₀ r₀ n q₀ h g now (filled (s + 1) (d - 1) k l)
     end-on x e =
         let deep = a .fills .stands .deep in
         let some = a .some in
-        close-in f s (λ z. some (deep ∙ z)) (λ z. more (deep ∙ z)) λ g u.
-        let o : opened g + 1 ≡ opened f = node-opens f (ListEnd s) u in
+        close-in text f s (λ z. some (deep ∙ z)) (λ z. more (deep ∙ z)) λ g u.
+        let o : opened g + 1 ≡ opened f = node-opens text f (ListEnd s) u in
         (g, record { known = a .known; some = λ z. more (omega arith); fills = fill-on text w₀ r₀ (a .known) (a .fills) end-item x u (omega arith) e })
 
   -- an atom from s to q
@@ -68,17 +68,17 @@ module _ (text w₀ : List ℕ) (r₀ : Reader) {n : Node} {q₀ : Reader} {h : 
     atom-item : nextItem text (readerAt r₀ p h d) ≡ next (readerAt r₀ q h d) (item (Atom s (q - s)))
     atom-item = plain-atom text r₀ (a .fills .stands) (a .some) t
 
-    pub atom-fits : Fits (length words) f (Atom s (q - s)) q
+    pub atom-fits : Fits text (length words) f (Atom s (q - s)) q
     atom-fits = item-fits text w₀ r₀ (a .known) (a .fills) atom-item
 
     pub atom-on :
-        {now : List ℕ} {k l : ℕ} → Shows w₀ (turn f (Atom s (q - s))) now (mark k l) → length now ≡ length words
+        {now : List ℕ} {k l : ℕ} → Shows w₀ (turn text f (Atom s (q - s))) now (mark k l) → length now ≡ length words
         → (g : Frames) × Filling text w₀ r₀ n q₀ h g now (filled q d k l)
     unfolding turn
     atom-on x e =
         let deep = a .fills .stands .deep in
         let some = a .some in
-        attach-in f (atom s (q - s)) (λ z. some (deep ∙ z)) λ g u o.
+        attach-in f (atom (kindAt text s (q - s)) s (q - s)) (λ z. some (deep ∙ z)) λ g u o.
         (g, record { known = a .known; some = some; fills = fill-on text w₀ r₀ (a .known) (a .fills) atom-item x u (deep ∙ sym o) e })
 
 -- after an item inside a known node, its parts are such a filling

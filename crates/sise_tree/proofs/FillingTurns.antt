@@ -8,7 +8,7 @@ use lib.ListN.{length, drop}
 use lib.Seq.{drop-drop}
 use Rattle.sise_parser.specs.declared.reader.ParsedItem.{ParsedItem}
 use Rattle.sise_parser.specs.declared.reader.ParsedItem.the-variants.{Atom, ListStart, ListEnd}
-use Rattle.sise_tree.specs.Tree.{atom, list, empty, size, sizes, children, tableAt, tables}
+use Rattle.sise_tree.specs.Tree.{kindAt, atom, list, empty, size, sizes, children, tableAt, tables}
 use Rattle.sise_tree.specs.ParseTree.{Frames, top, _▹_, Stage, inside, attach, close, turn}
 use Rattle.sise_tree.specs.Filling.{filled, innermost, distance, render, filledIn, innermostIn, renderIn, putAt, Attachable, Attaches, CanClose, Closes, Shows, EndsAt, Fits}
 use Rattle.sise_tree.specs.declared.parse.Mark.{Mark}
@@ -25,7 +25,7 @@ module _ {w₀ words : List ℕ} {f : Frames} {m : Mark} (h : Shows w₀ (inside
   put-shown k a b s e = rw (e, h .nexts, h .shown) (put-set f k a b s (drop (4 * filled f) w₀))
 
   -- an atom
-  module _ {i : ParsedItem} {p n end : ℕ} (t : i ≡ Atom p n) (u : Fits (length words) f i end) where
+  module _ {text : List ℕ} {i : ParsedItem} {p n end : ℕ} (t : i ≡ Atom p n) (u : Fits text (length words) f i end) where
     pub atom-ends : (p ≤ end) × (end < 2 ^ 32) × (end - p ≡ n)
     atom-ends = let e : p + n ≡ end = subst (EndsAt end) t (u .ends) in (omega arith, u .short, omega arith)
 
@@ -33,60 +33,60 @@ module _ {w₀ words : List ℕ} {f : Frames} {m : Mark} (h : Shows w₀ (inside
     by-end : i ≡ Atom p (end - p)
     by-end = t ∙ ap (Atom p) (sym (atom-ends .2))
 
-    pub atom-fits : Fits (length words) f (Atom p (end - p)) end
-    atom-fits = subst (λ (j : ParsedItem). Fits (length words) f j end) by-end u
+    pub atom-fits : Fits text (length words) f (Atom p (end - p)) end
+    atom-fits = subst (λ (j : ParsedItem). Fits text (length words) f j end) by-end u
 
-    pub atom-shows : {now : List ℕ} {m′ : Mark} → Shows w₀ (turn f (Atom p (end - p))) now m′ → Shows w₀ (turn f i) now m′
-    atom-shows {now} {m′} x = subst (λ (j : ParsedItem). Shows w₀ (turn f j) now m′) (sym by-end) x
+    pub atom-shows : {now : List ℕ} {m′ : Mark} → Shows w₀ (turn text f (Atom p (end - p))) now m′ → Shows w₀ (turn text f i) now m′
+    atom-shows {now} {m′} x = subst (λ (j : ParsedItem). Shows w₀ (turn text f j) now m′) (sym by-end) x
 
-    atom-turn : turn f i ≡ attach f (atom p n)
+    atom-turn : turn text f i ≡ attach f (atom (kindAt text p n) p n)
     unfolding turn
-    atom-turn = ap (turn f) t
+    atom-turn = ap (turn text f) t
 
-    atom-grows : filledIn (turn f i) ≡ filled f + 1
+    atom-grows : filledIn (turn text f i) ≡ filled f + 1
     unfolding size
-    atom-grows = ap filledIn atom-turn ∙ attach-filled f (atom p n)
+    atom-grows = ap filledIn atom-turn ∙ attach-filled f (atom (kindAt text p n) p n)
 
     pub atom-room : (m .next < length words / 4) × (m .next + 1 < 2 ^ 32)
     unfolding filledIn
     atom-room = (omega (arith, h .nexts, atom-grows, u .room), omega (arith, h .nexts, atom-grows, u .small))
 
-    module _ {k : ℕ} (e : k ≡ m .next) {put : List ℕ} (w : put ≡ putAt words k 1 p (end - p) 1) where
-      pub atom-attachable : Attachable put (m .parent) (m .next) f (atom p n) (drop 4 (drop (4 * filled f) w₀))
+    module _ {k g : ℕ} (e : k ≡ m .next) (its : g ≡ kindAt text p (end - p)) {put : List ℕ} (w : put ≡ putAt words k g p (end - p) 1) where
+      pub atom-attachable : Attachable put (m .parent) (m .next) f (atom (kindAt text p n) p n) (drop 4 (drop (4 * filled f) w₀))
       unfolding filledIn innermostIn tableAt
       atom-attachable =
           record {
-            shown = w ∙ ap (λ (l : ℕ). putAt words k 1 p l 1) (atom-ends .2) ∙ put-shown 1 p n 1 e;
+            shown = w ∙ ap (λ (x : ℕ). putAt words k x p (end - p) 1) its ∙ ap (λ (l : ℕ). putAt words k (kindAt text p l) p l 1) (atom-ends .2) ∙ put-shown (kindAt text p n) p n 1 e;
             parents = h .parents;
             nexts = h .nexts;
             small = omega (arith, atom-grows, u .small);
           }
 
-      pub atom-turns : {now : List ℕ} → Attaches put (m .parent) (m .next) now → Shows w₀ (turn f i) now (record { next = m .next + 1; parent = m .parent })
+      pub atom-turns : {now : List ℕ} → Attaches put (m .parent) (m .next) now → Shows w₀ (turn text f i) now (record { next = m .next + 1; parent = m .parent })
       unfolding filledIn innermostIn
       atom-turns a =
           record {
             shown =
-                a f (atom p n) _ atom-attachable
+                a f (atom (kindAt text p n) p n) _ atom-attachable
                 ∙ ap (λ (s : Stage). renderIn s ++ drop 4 (drop (4 * filled f) w₀)) (sym atom-turn)
-                ∙ ap (λ (l : List ℕ). renderIn (turn f i) ++ l) (step (filled f) w₀ ∙ ap (λ (j : ℕ). drop (4 * j) w₀) (sym atom-grows));
+                ∙ ap (λ (l : List ℕ). renderIn (turn text f i) ++ l) (step (filled f) w₀ ∙ ap (λ (j : ℕ). drop (4 * j) w₀) (sym atom-grows));
             nexts = ap (λ (j : ℕ). j + 1) (h .nexts) ∙ sym atom-grows;
-            parents = h .parents ∙ sym (ap innermostIn atom-turn ∙ attach-innermost f (atom p n));
+            parents = h .parents ∙ sym (ap innermostIn atom-turn ∙ attach-innermost f (atom (kindAt text p n) p n));
           }
 
   -- a list's start
-  module _ {i : ParsedItem} {p end : ℕ} (t : i ≡ ListStart p) (u : Fits (length words) f i end) where
-    pub start-fits : Fits (length words) f (ListStart p) end
-    start-fits = subst (λ (j : ParsedItem). Fits (length words) f j end) t u
+  module _ {text : List ℕ} {i : ParsedItem} {p end : ℕ} (t : i ≡ ListStart p) (u : Fits text (length words) f i end) where
+    pub start-fits : Fits text (length words) f (ListStart p) end
+    start-fits = subst (λ (j : ParsedItem). Fits text (length words) f j end) t u
 
-    pub start-shows : {now : List ℕ} {m′ : Mark} → Shows w₀ (turn f (ListStart p)) now m′ → Shows w₀ (turn f i) now m′
-    start-shows {now} {m′} x = subst (λ (j : ParsedItem). Shows w₀ (turn f j) now m′) (sym t) x
+    pub start-shows : {now : List ℕ} {m′ : Mark} → Shows w₀ (turn text f (ListStart p)) now m′ → Shows w₀ (turn text f i) now m′
+    start-shows {now} {m′} x = subst (λ (j : ParsedItem). Shows w₀ (turn text f j) now m′) (sym t) x
 
-    start-turn : turn f i ≡ inside (f ▹ empty)
+    start-turn : turn text f i ≡ inside (f ▹ empty)
     unfolding turn
-    start-turn = ap (turn f) t
+    start-turn = ap (turn text f) t
 
-    start-grows : filledIn (turn f i) ≡ filled f + 1
+    start-grows : filledIn (turn text f i) ≡ filled f + 1
     unfolding filledIn filled sizes
     start-grows = ap filledIn start-turn
 
@@ -101,7 +101,7 @@ module _ {w₀ words : List ℕ} {f : Frames} {m : Mark} (h : Shows w₀ (inside
 
     pub start-turns :
         {k : ℕ} → k ≡ m .next → {now : List ℕ} → now ≡ putAt words k 0 0 (m .next - m .parent) 0
-        → Shows w₀ (turn f i) now (record { next = m .next + 1; parent = m .next })
+        → Shows w₀ (turn text f i) now (record { next = m .next + 1; parent = m .next })
     unfolding filledIn filled innermostIn innermost renderIn render sizes children tables
     start-turns e {now} w =
         subst (λ (s : Stage). Shows w₀ s now (record { next = m .next + 1; parent = m .next })) (sym start-turn)
@@ -116,21 +116,21 @@ module _ {w₀ words : List ℕ} {f : Frames} {m : Mark} (h : Shows w₀ (inside
         })
 
 -- a list's end
-module _ {w₀ words : List ℕ} {m : Mark} {i : ParsedItem} {p end : ℕ} (t : i ≡ ListEnd p) where
-  pub end-closable : (f : Frames) → Shows w₀ (inside f) words m → Fits (length words) f i end → CanClose words (m .next) (m .parent)
+module _ {text w₀ words : List ℕ} {m : Mark} {i : ParsedItem} {p end : ℕ} (t : i ≡ ListEnd p) where
+  pub end-closable : (f : Frames) → Shows w₀ (inside f) words m → Fits text (length words) f i end → CanClose words (m .next) (m .parent)
   unfolding turn close filledIn innermostIn renderIn
-  end-closable top h u = absurd (u .due p (ap (turn top) t))
+  end-closable top h u = absurd (u .due p (ap (turn text top) t))
   end-closable (f ▹ c) h u = (f, c, drop (4 * filled (f ▹ c)) w₀, record { shown = h .shown; nexts = h .nexts; parents = h .parents })
 
   pub end-turns :
-      (f : Frames) → Shows w₀ (inside f) words m → Fits (length words) f i end → {r : ℕ} {now : List ℕ}
-      → Closes words (m .next) (m .parent) r now → Shows w₀ (turn f i) now (record { next = m .next; parent = r })
+      (f : Frames) → Shows w₀ (inside f) words m → Fits text (length words) f i end → {r : ℕ} {now : List ℕ}
+      → Closes words (m .next) (m .parent) r now → Shows w₀ (turn text f i) now (record { next = m .next; parent = r })
   unfolding turn close filledIn innermostIn renderIn filled size
-  end-turns top h u a = absurd (u .due p (ap (turn top) t))
+  end-turns top h u a = absurd (u .due p (ap (turn text top) t))
   end-turns (f ▹ c) h u {r} {now} a =
       let k = a f c (drop (4 * filled (f ▹ c)) w₀) (record { shown = h .shown; nexts = h .nexts; parents = h .parents }) in
       let z : filledIn (attach f (list c)) ≡ filled f + (1 + sizes c) = attach-filled f (list c) in
-      subst (λ (s : Stage). Shows w₀ s now (record { next = m .next; parent = r })) (sym (ap (turn (f ▹ c)) t))
+      subst (λ (s : Stage). Shows w₀ s now (record { next = m .next; parent = r })) (sym (ap (turn text (f ▹ c)) t))
       (record {
         shown = k .1 ∙ ap (λ (j : ℕ). renderIn (attach f (list c)) ++ drop (4 * j) w₀) (sym z);
         nexts = h .nexts ∙ sym z;

@@ -3,10 +3,14 @@ pub mod DecisionLaws
 pub mod Rows
 pub mod LocalLaws
 pub mod LocalSteps
+pub mod Shifts
+pub mod AtomsHold
+pub mod HeldLaws
 pub mod WalkLaws
 pub mod PathLaws
 pub mod ReadSteps
 pub mod PlainItems
+pub mod PlainKinds
 pub mod ParseSteps
 pub mod FillingLaws
 pub mod FillingParts

@@ -12,11 +12,11 @@ use mathlib.Core.List.{List, _∷_, _++_, append-assoc}
 use lib.Dec.{leb, ltb, eqb}
 use lib.ListN.{length, getD, drop, length-append, length-drop}
 use lib.Seq.{drop-drop, drop-at, getD-drop}
-use borrow.Author.Tests.{ltb-true, ltb-false, leb-true, eqb-true, eqb-false, lt-ltb, le-leb, eq-eqb}
+use borrow.Author.Tests.{ltb-true, ltb-false, leb-true, eqb-true, eqb-false, lt-ltb, le-leb, eq-eqb, ne-eqb}
 use Rattle.sise_util.proofs.Ranges.{split, and-first, both}
-use Rattle.sise_tree.specs.Tree.{Node, atom, list, Nodes, empty, _then_, size, sizes, children, tableAt, tables, lies, liesAll, Holds, kind, first, second, span, linked, fills, fillsIn, good, HoldsTree}
+use Rattle.sise_tree.specs.Tree.{Node, atom, list, Nodes, empty, _then_, size, sizes, children, tableAt, tables, sits, lies, liesAll, Holds, kind, first, second, span, linked, fills, fillsIn, good, HoldsTree}
 use Rattle.sise_tree.specs.Decision.{isSome, decide}
-use Rattle.sise_tree.proofs.TreeLaws.{anded, length-table, length-tables, size-pos, spelt-holds, holds-words, holds-fits}
+use Rattle.sise_tree.proofs.TreeLaws.{anded, sits-kind, Kinded, kinded, length-table, length-tables, size-pos, spelt-holds, holds-words, holds-fits}
 use Rattle.sise_tree.proofs.DecisionLaws.{decide-sound, decide-complete}
 use Rattle.sise_tree.proofs.Rows.{four}
 
@@ -58,12 +58,12 @@ module _ (words : List ℕ) where
   unfolding linked
   linked-third p d {a} z h k = let e = eqb-true (second words a) (a - p) (rw (k, linked) at h) in omega arith
 
-  third-linked : (p d : ℕ) {a : ℕ} (n : Node) (rest : List ℕ) → a ≡ p + d → drop (4 * a) words ≡ tableAt d n ++ rest → linked words p a ≡ true
-  unfolding linked tableAt
-  third-linked p d {a} (atom q m) rest z e = rw (stands a e .kinds)
-  third-linked p d {a} (list c) rest z e = let s = stands a e in rw (s .kinds, linked) (eq-eqb (second words a) (a - p) (omega (arith, s .seconds)))
+  third-linked : (p d : ℕ) {a : ℕ} (n : Node) (rest : List ℕ) → a ≡ p + d → drop (4 * a) words ≡ tableAt d n ++ rest → Kinded n → linked words p a ≡ true
+  unfolding linked tableAt Kinded
+  third-linked p d {a} (atom k q m) rest z e such = let s = stands a e in rw (ne-eqb (kind words a) 0 (λ (y : kind words a ≡ 0). such (sym (s .kinds) ∙ y)), linked)
+  third-linked p d {a} (list c) rest z e such = let s = stands a e in rw (s .kinds, linked) (eq-eqb (second words a) (a - p) (omega (arith, s .seconds)))
 
-module _ (l : ℕ) (words : List ℕ) where
+module _ (l words : List ℕ) where
   -- each node from a up to e is good
   abbrev pub Each : ℕ → ℕ → Type 0
   Each a e = (k : ℕ) → a ≤ k → k < e → good l words k ≡ true
@@ -98,10 +98,10 @@ module _ (l : ℕ) (words : List ℕ) where
         inText = both _ _ (n .inText) (more .inText);
       }
 
-  made-atom : {d a : ℕ} → 4 * (a + 1) ≤ length words → kind words a ≡ 1 → span words a ≡ 1 → leb (first words a + second words a) l ≡ true → Made d a
+  made-atom : {d a : ℕ} → 4 * (a + 1) ≤ length words → span words a ≡ 1 → sits l (kind words a) (first words a) (second words a) ≡ true → Made d a
   unfolding size tableAt lies
-  made-atom {a = a} u k s t =
-      record { node = atom (first words a) (second words a); spelt = cc (four words a u); total = sym s; inText = t }
+  made-atom {a = a} u s t =
+      record { node = atom (kind words a) (first words a) (second words a); spelt = cc (four words a u); total = sym s; inText = t }
 
   made-list :
       {d a : ℕ} → 4 * (a + 1) ≤ length words → kind words a ≡ 0 → second words a ≡ d → Built 1 (first words a) (a + 1) (a + span words a)
@@ -117,15 +117,14 @@ module _ (l : ℕ) (words : List ℕ) where
       → (fills words a (first words a) (a + 1) (a + span words a) ≡ true → Built 1 (first words a) (a + 1) (a + span words a)) → Made d a
   unfolding fillsIn good
   made {a = a} u here third own =
-      split (eqb (kind words a) 1)
+      split (eqb (kind words a) 0)
+      (λ k.
+      anded {a = leb (a + span words a) (length words / 4)} (rw (k, good) at here) λ o filled.
+      let z = eqb-true (kind words a) 0 k in
+      made-list u z (third z) (own filled))
       (λ k.
       anded (rw (k, good) at here) λ s t.
-      made-atom u (eqb-true (kind words a) 1 k) (eqb-true (span words a) 1 s) t)
-      (λ k.
-      anded (rw (k, good) at here) λ k₀ t.
-      anded {a = leb (a + span words a) (length words / 4)} t λ o filled.
-      let z = eqb-true (kind words a) 0 k₀ in
-      made-list u z (third z) (own filled))
+      made-atom u (eqb-true (span words a) 1 s) t)
 
   build :
       (f p d c a e : ℕ) → e ≤ a + f → 4 * e ≤ length words → a ≡ p + d → fills words p c a e ≡ true → Each a e → Built d c a e
@@ -161,9 +160,9 @@ module _ (l : ℕ) (words : List ℕ) where
   each-join : {a m e : ℕ} → Each a m → Each m e → Each a e
   each-join {m} p q k h g = split (ltb k m) (λ t. p k h (ltb-true k m t)) (λ t. q k (ltb-false k m t) g)
 
-  atom-good : {a p n : ℕ} {rest : List ℕ} → Stands words a 1 p n 1 rest → leb (p + n) l ≡ true → good l words a ≡ true
+  atom-good : {a k p n : ℕ} {rest : List ℕ} → Stands words a k p n 1 rest → sits l k p n ≡ true → good l words a ≡ true
   unfolding good
-  atom-good s t = rw (s .kinds, good) (both _ _ (eq-eqb _ _ (s .spans)) (rw (s .firsts, s .seconds) t))
+  atom-good {a} {k} {p} {n} s t = rw (s .kinds, good, ne-eqb k 0 (sits-kind l k p n t)) (both _ _ (eq-eqb _ _ (s .spans)) (rw (s .firsts, s .seconds) t))
 
   list-good : {a c d p : ℕ} {rest : List ℕ} → Stands words a 0 c d p rest → fillsIn words a c (a + 1) (a + p) ≡ true → good l words a ≡ true
   unfolding good
@@ -176,7 +175,7 @@ module _ (l : ℕ) (words : List ℕ) where
     pub node-local :
         (d : ℕ) (n : Node) (a : ℕ) (rest : List ℕ) → drop (4 * a) words ≡ tableAt d n ++ rest → lies l n ≡ true
         → (span words a ≡ size n) × Each a (a + size n)
-    node-local d (atom p n) a rest e t = let s = stands words a e in (s .spans, each-one (atom-good s t))
+    node-local d (atom k p n) a rest e t = let s = stands words a e in (s .spans, each-one (atom-good s t))
     node-local d (list c) a rest e t =
         let s = stands words a e in
         let (own, each) = row-local a 1 c (a + 1) rest refl (s .after) t in
@@ -196,7 +195,7 @@ module _ (l : ℕ) (words : List ℕ) where
         let (next, others) = row-local p (d + size n) c (a + size n) rest (omega arith) (skip words d n a after e′) more in
         let z : a + size n + sizes c ≡ a + (size n + sizes c) = omega arith in (
           rw (one-add (children c), spans)
-              (both _ _ (lt-ltb a _ (omega (arith, size-pos n))) (both _ _ (le-leb 1 _ (size-pos n)) (both _ _ (third-linked words p d n after q e′) (rw z at next)))),
+              (both _ _ (lt-ltb a _ (omega (arith, size-pos n))) (both _ _ (le-leb 1 _ (size-pos n)) (both _ _ (third-linked words p d n after q e′ (kinded l n here)) (rw z at next)))),
           each-join each (rw z at others),
         )
 
@@ -213,7 +212,7 @@ module _ (l : ℕ) (words : List ℕ) where
     node-subtree :
         (d : ℕ) (n : Node) (a : ℕ) (rest : List ℕ) → drop (4 * a) words ≡ tableAt d n ++ rest → lies l n ≡ true
         → (k : ℕ) → a ≤ k → k < a + size n → Subtree k
-    node-subtree d (atom p m) a rest e t k g o = let z : a ≡ k = omega arith in rw z at (its-subtree d (atom p m) a rest e t)
+    node-subtree d (atom w p m) a rest e t k g o = let z : a ≡ k = omega arith in rw z at (its-subtree d (atom w p m) a rest e t)
     node-subtree d (list c) a rest e t k g o =
         split (eqb a k)
         (λ z. rw (eqb-true a k z) at (its-subtree d (list c) a rest e t))

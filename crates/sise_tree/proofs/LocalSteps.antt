@@ -8,7 +8,7 @@ use mathlib.Core.List.{List}
 use lib.Dec.{leb, eqb}
 use lib.ListN.{length}
 use borrow.Author.Tests.{lt-ltb, le-ltb, le-leb, lt-leb, ne-eqb}
-use Rattle.sise_tree.specs.Tree.{kind, first, second, span, linked, fills, fillsIn, good}
+use Rattle.sise_tree.specs.Tree.{kind, first, second, span, sits, linked, fills, fillsIn, good}
 use Rattle.sise_tree.specs.Parts.{goodIn}
 
 pub fills-outside : (words : List ℕ) (p c i e : ℕ) → length words / 4 < e → fillsIn words p c i e ≡ false
@@ -59,11 +59,11 @@ pub linked-list : (words : List ℕ) (p i : ℕ) {y : ℕ} → y ≡ second word
 unfolding linked
 linked-list words p i r z = rw (z, linked, r)
 
-pub good-outside : (l : ℕ) (words : List ℕ) (i : ℕ) → length words / 4 ≤ i → goodIn l words i ≡ false
+pub good-outside : (l words : List ℕ) (i : ℕ) → length words / 4 ≤ i → goodIn l words i ≡ false
 unfolding goodIn
 good-outside l words i h = rw (le-ltb i (length words / 4) h)
 
-module _ (l : ℕ) (words : List ℕ) (i : ℕ) (within : i < length words / 4) where
+module _ (l words : List ℕ) (i : ℕ) (within : i < length words / 4) where
   pub good-within : goodIn l words i ≡ good l words i
   unfolding goodIn
   good-within = rw (lt-ltb i (length words / 4) within)
@@ -73,14 +73,11 @@ module _ (l : ℕ) (words : List ℕ) (i : ℕ) (within : i < length words / 4) 
   unfolding good
   good-list ex es k = good-within ∙ rw (k, good, sym ex, sym es)
 
-  pub good-atom : {x y s : ℕ} → x ≡ first words i → y ≡ second words i → s ≡ span words i → kind words i ≡ 1 → s ≡ 1 → goodIn l words i ≡ leb (x + y) l
+  -- kinds are not compared yet
+  pub good-atom : {x y s : ℕ} → x ≡ first words i → y ≡ second words i → s ≡ span words i → (kind words i ≡ 0 → ⊥) → s ≡ 1 → goodIn l words i ≡ sits l (kind words i) x y
   unfolding good
-  good-atom ex ey es k s = good-within ∙ rw (k, good, sym es ∙ s, sym ex, sym ey)
+  good-atom ex ey es k s = good-within ∙ rw (ne-eqb (kind words i) 0 k, good, sym es ∙ s, sym ex, sym ey)
 
-  pub good-long : {s : ℕ} → s ≡ span words i → kind words i ≡ 1 → (s ≡ 1 → ⊥) → goodIn l words i ≡ false
+  pub good-long : {s : ℕ} → s ≡ span words i → (kind words i ≡ 0 → ⊥) → (s ≡ 1 → ⊥) → goodIn l words i ≡ false
   unfolding good
-  good-long es k s = good-within ∙ rw (k, good, ne-eqb (span words i) 1 (λ e. s (es ∙ e)))
-
-  pub good-other : (kind words i ≡ 1 → ⊥) → (kind words i ≡ 0 → ⊥) → goodIn l words i ≡ false
-  unfolding good
-  good-other k₁ k₀ = good-within ∙ rw (ne-eqb (kind words i) 1 k₁, good, ne-eqb (kind words i) 0 k₀)
+  good-long es k s = good-within ∙ rw (ne-eqb (kind words i) 0 k, good, ne-eqb (span words i) 1 (λ e. s (es ∙ e)))

@@ -8,15 +8,16 @@ use mathlib.Core.Bool.{true, false, false≢true}
 use mathlib.Core.List.{List}
 use lib.ListN.{length, drop}
 use borrow.Author.Tests.{le-leb, leb-true, eqb-true}
-use Rattle.sise_parser.specs.Reader.{listsFit, isSound}
+use Rattle.sise_parser.specs.Reader.{Next, listsFit, isSound}
 use Rattle.sise_parser.specs.declared.reader.Phase.{Phase}
 use Rattle.sise_parser.specs.declared.reader.Phase.the-variants.{Beginning, Parsing, Finishing}
 use Rattle.sise_parser.specs.declared.reader.Reader.{Reader}
 use Rattle.sise_parser.proofs.Calls.{sound-parts}
+use Rattle.sise_parser.proofs.RefusedLaws.{atom-item}
 use Rattle.sise_tree.specs.Tree.{Node, Nodes, size, sizes, lies, liesAll, Holds}
 use Rattle.sise_tree.specs.ParseTree.{got, readNode, filledWith}
 use Rattle.sise_tree.specs.Descent.{ReadsNode, one, many, ReadsNodes, none, more}
-use Rattle.sise_tree.proofs.TreeLaws.{words-after}
+use Rattle.sise_tree.proofs.TreeLaws.{words-after, own-kind}
 use Rattle.sise_tree.proofs.ReadSteps.{begins, took}
 use Rattle.sise_tree.proofs.Descent.{read-descent}
 
@@ -25,7 +26,7 @@ module _ (text : List ℕ) where
   pub record NodeTaken (r : Reader) (n : Node) (q : Reader) : Type 0 where
     pub bytes : r .position + size n ≤ q .position
     pub within : q .position ≤ length text
-    pub inText : lies (length text) n ≡ true
+    pub inText : lies text n ≡ true
     pub lists : q .lists ≡ r .lists
     pub was : isSound (length text) r ≡ true
     pub sound : isSound (length text) q ≡ true
@@ -33,19 +34,19 @@ module _ (text : List ℕ) where
 
   record NodesTaken (r : Reader) (c : Nodes) (q : Reader) : Type 0 where
     bytes : r .position + sizes c ≤ q .position
-    inText : liesAll (length text) c ≡ true
+    inText : liesAll text c ≡ true
     lists : q .lists ≡ r .lists
 
   mutual
     unfolding size sizes lies liesAll
 
     node-taken : {r q : Reader} {n : Node} → ReadsNode text r n q → NodeTaken r n q
-    node-taken {r} (one {p = p} {n = n} e) =
+    node-taken {r} (one {k = k} {p = p} {n = n} e w) =
         let t = took text r e in
         record {
           bytes = omega (arith, t .moves);
           within = t .within;
-          inText = le-leb (p + n) (length text) (omega (arith, t .leaves .0, t .within));
+          inText = rw w (own-kind text p n (omega (arith, t .leaves .0, t .within)) (atom-item text r (ap (λ (x : Next). x .answer) e)));
           lists = t .leaves .1;
           was = t .sound;
           sound = t .stays;
@@ -80,13 +81,13 @@ module _ (text : List ℕ) where
     pub at-most-bytes : size n ≤ length text
     at-most-bytes = let t = node-read-taken in omega (arith, t .bytes, t .within)
 
-    pub read-lies : lies (length text) n ≡ true
+    pub read-lies : lies text n ≡ true
     read-lies = node-read-taken .inText
 
     -- so the table that is written holds the node that was read
-    pub read-holds : (words : List ℕ) → Holds (length text) (filledWith n words) n
+    pub read-holds : (words : List ℕ) → Holds text (filledWith n words) n
     unfolding filledWith
-    read-holds words = words-after (length text) 0 n (drop (4 * size n) words) read-lies
+    read-holds words = words-after text 0 n (drop (4 * size n) words) read-lies
 
     -- the record after it: sound, with the lists open that were
     pub read-sound : isSound (length text) q ≡ true

@@ -50,12 +50,12 @@ unfolding attach opened
 attach-opens top n t = absurd (false≢true (ap isInside t))
 attach-opens (f ▹ c) n t = sym (ap openedIn t)
 
-pub node-opens : (f : Frames) (i : ParsedItem) {g : Frames} → turn f i ≡ inside g → Opens i (opened f) (opened g)
+pub node-opens : (text : List ℕ) (f : Frames) (i : ParsedItem) {g : Frames} → turn text f i ≡ inside g → Opens i (opened f) (opened g)
 unfolding turn close opened
-node-opens f (Atom p n) t = attach-opens f (tree.atom p n) t
-node-opens f (ListStart p) t = sym (ap openedIn t)
-node-opens top (ListEnd p) t = absurd (false≢true (ap isInside t))
-node-opens (f ▹ c) (ListEnd p) t = ap (λ (k : ℕ). k + 1) (attach-opens f (list c) t)
+node-opens text f (Atom p n) t = attach-opens f (tree.atom (tree.kindAt text p n) p n) t
+node-opens text f (ListStart p) t = sym (ap openedIn t)
+node-opens text top (ListEnd p) t = absurd (false≢true (ap isInside t))
+node-opens text (f ▹ c) (ListEnd p) t = ap (λ (k : ℕ). k + 1) (attach-opens f (list c) t)
 
 -- a node that is not yet whole has a list open
 attach-open : (f : Frames) (n : Node) {g : Frames} → attach f n ≡ inside g → opened g ≡ 0 → ⊥
@@ -63,12 +63,12 @@ unfolding attach opened
 attach-open top n t z = false≢true (ap isInside t)
 attach-open (f ▹ c) n t z = omega (arith, ap openedIn t)
 
-pub inside-open : (f : Frames) (i : ParsedItem) {g : Frames} → turn f i ≡ inside g → opened g ≡ 0 → ⊥
+pub inside-open : (text : List ℕ) (f : Frames) (i : ParsedItem) {g : Frames} → turn text f i ≡ inside g → opened g ≡ 0 → ⊥
 unfolding turn close opened
-inside-open f (Atom p n) t z = attach-open f (tree.atom p n) t z
-inside-open f (ListStart p) t z = omega (arith, ap openedIn t)
-inside-open top (ListEnd p) t z = false≢true (ap isInside t)
-inside-open (f ▹ c) (ListEnd p) t z = attach-open f (list c) t z
+inside-open text f (Atom p n) t z = attach-open f (tree.atom (tree.kindAt text p n) p n) t z
+inside-open text f (ListStart p) t z = omega (arith, ap openedIn t)
+inside-open text top (ListEnd p) t z = false≢true (ap isInside t)
+inside-open text (f ▹ c) (ListEnd p) t z = attach-open f (list c) t z
 
 both-open : (i : ParsedItem) (a b c d k : ℕ) → Opens i a b → Opens i c d → c ≡ k + a → d ≡ k + b
 both-open (Atom p n) a b c d k x y z = omega arith
@@ -81,14 +81,14 @@ module _ (text : List ℕ) (r₀ : Reader) where
   stands-none = record { reads = refl; deep = refl; listed = omega arith; sound = λ d. absurd (d refl) }
 
   module _ {f : Frames} {r : Reader} {depth : ℕ} (h : Stands text r₀ f r depth) {q : Reader} {i : ParsedItem} (e : nextItem text r ≡ next q (item i)) where
-    pub turned : {s : Stage} → turn f i ≡ s → readStage (readOn text q) q s ≡ readNode text r₀
+    pub turned : {s : Stage} → turn text f i ≡ s → readStage (readOn text q) q s ≡ readNode text r₀
     turned t = ap (readStage (readOn text q) q) (sym t) ∙ sym (read-item text r f e) ∙ h .reads
 
-    pub stands-on : {g : Frames} {d : ℕ} → turn f i ≡ inside g → d ≡ opened g → Stands text r₀ g q d
+    pub stands-on : {g : Frames} {d : ℕ} → turn text f i ≡ inside g → d ≡ opened g → Stands text r₀ g q d
     unfolding readStage
     stands-on {g} t z =
         let k = took text r e in
-        let l = both-open i (opened f) (opened g) (r .lists) (q .lists) (r₀ .lists) (node-opens f i t) (reader-opens i k) (h .listed ∙ ap (λ (d : ℕ). r₀ .lists + d) (h .deep)) in
+        let l = both-open i (opened f) (opened g) (r .lists) (q .lists) (r₀ .lists) (node-opens text f i t) (reader-opens i k) (h .listed ∙ ap (λ (d : ℕ). r₀ .lists + d) (h .deep)) in
         record { reads = turned t; deep = z; listed = l ∙ ap (λ (d : ℕ). r₀ .lists + d) (sym z); sound = λ d. k .stays }
 
 -- a plain token at p, in a list

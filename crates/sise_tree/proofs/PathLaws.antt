@@ -19,7 +19,7 @@ use Rattle.sise_tree.specs.ParseTree.{longest}
 use Rattle.sise_tree.specs.Answers.{answered, refusedWith}
 use Rattle.sise_tree.specs.IndexPath.{nodeAt, childAt, indexed, indexedIn, indexPath}
 use Rattle.sise_tree.specs.Parts.{stepped, MoreThan}
-use Rattle.sise_tree.proofs.TreeLaws.{anded, length-table, size-pos, holds-words}
+use Rattle.sise_tree.proofs.TreeLaws.{anded, sits-kind, length-table, size-pos, holds-words}
 use Rattle.sise_tree.proofs.LocalLaws.{stands, skip, node-local, fills-le, held}
 
 -- ---- stepping over nodes
@@ -75,7 +75,7 @@ no-child empty i k path h = refl
 no-child (n then c) i zero path h = absurd (omega arith)
 no-child (n then c) i (suc k) path h = no-child c (i + size n) k path (omega arith)
 
-module _ (l : ℕ) (words : List ℕ) where
+module _ (l words : List ℕ) where
   -- in the words, node n is node i
   record Stood (n : Node) (i : ℕ) : Type 0 where
     distance : ℕ
@@ -115,13 +115,13 @@ module _ (l : ℕ) (words : List ℕ) where
 pub record At (words text path : List ℕ) (i k : ℕ) : Type 0 where
   pub within : 4 * (i + 1) ≤ length words
   node : Node
-  stood : Stood (length text) words node i
+  stood : Stood text words node i
   same : indexPath words text path ≡ indexed (nodeAt node i (drop k path))
 
 reached :
-    {words text path : List ℕ} {i k : ℕ} (n : Node) → Stood (length text) words n i → indexPath words text path ≡ indexed (nodeAt n i (drop k path))
+    {words text path : List ℕ} {i k : ℕ} (n : Node) → Stood text words n i → indexPath words text path ≡ indexed (nodeAt n i (drop k path))
     → At words text path i k
-reached {words} {text} n s e = record { within = stood-within (length text) words s; node = n; stood = s; same = e }
+reached {words} {text} n s e = record { within = stood-within text words s; node = n; stood = s; same = e }
 
 module _ (words text path : List ℕ) where
   pub too-long : longest < length text → indexPath words text path ≡ refusedWith 13
@@ -129,27 +129,27 @@ module _ (words text path : List ℕ) where
   too-long h = rw (lt-ltb longest (length text) h)
 
   module _ (short : length text ≤ longest) where
-    as-decided : indexPath words text path ≡ indexedIn (decide (length text) words) path
+    as-decided : indexPath words text path ≡ indexedIn (decide text words) path
     unfolding indexPath
     as-decided = rw (le-ltb longest (length text) short)
 
-    pub no-tree : isSome (decide (length text) words) ≡ false → indexPath words text path ≡ refusedWith 15
+    pub no-tree : isSome (decide text words) ≡ false → indexPath words text path ≡ refusedWith 15
     unfolding isSome
-    no-tree f = as-decided ∙ of (decide (length text) words) f
+    no-tree f = as-decided ∙ of (decide text words) f
       where
         of : (d : Option Node) → isSome d ≡ false → indexedIn d path ≡ refusedWith 15
         of none h = refl
         of (some n) h = absurd (false≢true (sym h))
 
-    pub at-root : isSome (decide (length text) words) ≡ true → At words text path 0 0
+    pub at-root : isSome (decide text words) ≡ true → At words text path 0 0
     at-root t =
-        let (n, e, h) = held (length text) words t in
+        let (n, e, h) = held text words t in
         reached n (record { distance = second words 0; rest = drop (4 * size n) words; begins = holds-words (h .holds); inText = h .holds .inText })
         (as-decided ∙ ap (λ (d : Option Node). indexedIn d path) e)
 
 node-here : (n : Node) (i : ℕ) → nodeAt n i [] ≡ some i
 unfolding nodeAt
-node-here (atom p m) i = refl
+node-here (atom w p m) i = refl
 node-here (list c) i = refl
 
 module _ {words text path : List ℕ} {i k : ℕ} (a : At words text path i k) where
@@ -165,8 +165,8 @@ module _ {words text path : List ℕ} {i k : ℕ} (a : At words text path i k) w
     unfolding nodeAt tableAt
     at-none h = going-on ∙ of (a .node) (a .stood)
       where
-        of : (n : Node) → Stood (length text) words n i → indexed (nodeAt n i (getD path k 0 ∷ drop (k + 1) path)) ≡ refusedWith 16
-        of (atom p m) s = refl
+        of : (n : Node) → Stood text words n i → indexed (nodeAt n i (getD path k 0 ∷ drop (k + 1) path)) ≡ refusedWith 16
+        of (atom w p m) s = refl
         of (list c) s =
             let e = stands words i (s .begins) in
             ap indexed (no-child c (i + 1) (getD path k 0) (drop (k + 1) path) (omega (arith, e .firsts, h (e .kinds))))
@@ -177,7 +177,7 @@ module _ {words text path : List ℕ} {i k : ℕ} (a : At words text path i k) w
       unfolding good
       at-more =
           let s = a .stood in
-          let here = node-local (length text) words (s .distance) (a .node) i (s .rest) (s .begins) (s .inText) .1 i (omega arith) (omega (arith, size-pos (a .node))) in
+          let here = node-local text words (s .distance) (a .node) i (s .rest) (s .begins) (s .inText) .1 i (omega arith) (omega (arith, size-pos (a .node))) in
           record { parent = i; count = first words i; end = i + span words i; below = omega arith; filled = rw (z, good) at here }
 
       pub at-child : At words text path (stepped words (getD path k 0) (i + 1)) (k + 1)
@@ -185,10 +185,10 @@ module _ {words text path : List ℕ} {i k : ℕ} (a : At words text path i k) w
       at-child = of (a .node) (a .stood) going-on
         where
           of :
-              (n : Node) → Stood (length text) words n i → indexPath words text path ≡ indexed (nodeAt n i (getD path k 0 ∷ drop (k + 1) path))
+              (n : Node) → Stood text words n i → indexPath words text path ≡ indexed (nodeAt n i (getD path k 0 ∷ drop (k + 1) path))
               → At words text path (stepped words (getD path k 0) (i + 1)) (k + 1)
-          of (atom p m) s e = absurd (omega (arith, stands words i (s .begins) .kinds))
+          of (atom w p m) s e = absurd (sits-kind text w p m (s .inText) (sym (stands words i (s .begins) .kinds) ∙ z))
           of (list c) s e =
               let w = stands words i (s .begins) in
-              let f = find (length text) words 1 c (i + 1) (getD path k 0) (s .rest) (w .after) (s .inText) (omega (arith, r, w .firsts)) in
+              let f = find text words 1 c (i + 1) (getD path k 0) (s .rest) (w .after) (s .inText) (omega (arith, r, w .firsts)) in
               reached (f .node) (f .stood) (e ∙ ap indexed (f .same (drop (k + 1) path)))

@@ -139,9 +139,9 @@ Same text k m = (r : Reader) (f : Frames) → Enough text r k → Enough text r 
 
 fuel-step :
     (text : List ℕ) (k m : ℕ) → Same text k m → (r : Reader) (f : Frames) → Enough text r (suc k) → Enough text r (suc m)
-    → (q : Reader) (a : Answer) → nextItem text r ≡ next q a → readAnswer (readFrom k text q) q f a ≡ readAnswer (readFrom m text q) q f a
+    → (q : Reader) (a : Answer) → nextItem text r ≡ next q a → readAnswer text (readFrom k text q) q f a ≡ readAnswer text (readFrom m text q) q f a
 unfolding readAnswer
-fuel-step text k m h r f hk hm q (item i) e = stage-same q (λ g. h q g (one-less text r e hk) (one-less text r e hm)) (turn f i)
+fuel-step text k m h r f hk hm q (item i) e = stage-same q (λ g. h q g (one-less text r e hk) (one-less text r e hm)) (turn text f i)
 fuel-step text k m h r f hk hm q (refused x) e = refl
 
 -- as soon as it is enough, the bound makes no difference
@@ -165,18 +165,18 @@ more-fuel text r k h = fuel text k (suc (length text)) r top (whole-text text r 
 
 pub read-item :
     (text : List ℕ) (r : Reader) (f : Frames) {q : Reader} {i : ParsedItem} → nextItem text r ≡ next q (item i)
-    → readOn text r f ≡ readStage (readOn text q) q (turn f i)
+    → readOn text r f ≡ readStage (readOn text q) q (turn text f i)
 unfolding readFrom readAnswer
 read-item text r f {q} {i} e =
-    ap (λ (x : Next). readAnswer (readFrom (length text) text (x .reader)) (x .reader) f (x .answer)) e
+    ap (λ (x : Next). readAnswer text (readFrom (length text) text (x .reader)) (x .reader) f (x .answer)) e
     ∙ stage-same q
     (λ g. fuel text (length text) (suc (length text)) q g (one-less text r e (whole-text text r (suc (length text)) (omega arith))) (whole-text text q (suc (length text)) (omega arith)))
-    (turn f i)
+    (turn text f i)
 
 pub read-refused :
     (text : List ℕ) (r : Reader) (f : Frames) {q : Reader} {x : Refusal} → nextItem text r ≡ next q (refused x) → readOn text r f ≡ stopped x q
 unfolding readFrom readAnswer
-read-refused text r f e = ap (λ (x : Next). readAnswer (readFrom (length text) text (x .reader)) (x .reader) f (x .answer)) e
+read-refused text r f e = ap (λ (x : Next). readAnswer text (readFrom (length text) text (x .reader)) (x .reader) f (x .answer)) e
 
 -- what the code's call says, where its answer is known
 pub called : (x : ReaderNext) {a : ReaderAnswer} {q : Reader} {y : Next} → nextAs x ≡ y → q ≡ x .reader → x .answer ≡ a → y ≡ next q (answerAs a)
@@ -205,24 +205,24 @@ stage-got (whole m) h k j = j (ap (λ (x : ReadNode). whole (nodeIn m x)) h) (ap
 stage-got (closes p) h k j = stopped-got h
 
 answer-got :
-    {C : Type 0} (on : Frames → ReadNode) (r : Reader) {q : Reader} {n : Node} (f : Frames) (a : Answer) → readAnswer on r f a ≡ got n q
-    → ((i : ParsedItem) → a ≡ item i → readStage on r (turn f i) ≡ got n q → C) → C
+    {C : Type 0} (text : List ℕ) (on : Frames → ReadNode) (r : Reader) {q : Reader} {n : Node} (f : Frames) (a : Answer) → readAnswer text on r f a ≡ got n q
+    → ((i : ParsedItem) → a ≡ item i → readStage on r (turn text f i) ≡ got n q → C) → C
 unfolding readAnswer
-answer-got on r f (item i) h k = k i refl h
-answer-got on r f (refused e) h k = stopped-got h
+answer-got text on r f (item i) h k = k i refl h
+answer-got text on r f (refused e) h k = stopped-got h
 
 -- P holds of the open lists and the record from which reading on comes to n and leaves q: where the next item makes it whole, and where it leads to
 -- lists and a record of which P holds
 pub record Leads (text : List ℕ) (n : Node) (q : Reader) (P : Frames → Reader → Type 0) : Type 0 where
-  pub ended : (f : Frames) (r : Reader) (i : ParsedItem) → nextItem text r ≡ next q (item i) → turn f i ≡ whole n → P f r
-  pub went : (f g : Frames) (r s : Reader) (i : ParsedItem) → nextItem text r ≡ next s (item i) → turn f i ≡ inside g → P g s → P f r
+  pub ended : (f : Frames) (r : Reader) (i : ParsedItem) → nextItem text r ≡ next q (item i) → turn text f i ≡ whole n → P f r
+  pub went : (f g : Frames) (r s : Reader) (i : ParsedItem) → nextItem text r ≡ next s (item i) → turn text f i ≡ inside g → P g s → P f r
 
 pub leads : (text : List ℕ) {n : Node} {q : Reader} {P : Frames → Reader → Type 0} → Leads text n q P → (k : ℕ) (f : Frames) (r : Reader) → readFrom k text r f ≡ got n q → P f r
 unfolding readFrom
 leads text l zero f r h = stopped-got h
 leads text {q = q} l (suc k) f r h =
     let s = nextItem text r .reader in
-    answer-got (readFrom k text s) s f (nextItem text r .answer) h λ i a t.
-    stage-got (turn f i) t
+    answer-got text (readFrom k text s) s f (nextItem text r .answer) h λ i a t.
+    stage-got (turn text f i) t
     (λ g w more. l .went f g r s i (ap (next s) a) w (leads text l k g s more))
     (λ w z. l .ended f r i (ap (next s) a ∙ ap (λ (x : Reader). next x (item i)) z) w)

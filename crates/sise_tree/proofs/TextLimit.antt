@@ -5,6 +5,9 @@ use mathlib.Core.Path.{_≡_, sym, ap, _∙_}
 use mathlib.Core.Bool.{true, false}
 use mathlib.Core.List.{List, [], _∷_}
 use lib.Dec.{ltb}
+use native.Mathlib.Omega.{arith}
+use borrow.Author.Tests.{le-leb}
+use Rattle.sise_util.specs.Atom.{kindPrefix, kindOf, isAtom, outside, hasQuote}
 use lib.ListN.{length, replicate, length-replicate}
 use Rattle.sise_util.specs.Chars.{within}
 use Rattle.sise_util.specs.Classes.{classOf}
@@ -15,7 +18,7 @@ use Rattle.sise_parser.specs.declared.reader.ParsedItem.the-variants.{Atom}
 use Rattle.sise_parser.specs.declared.reader.Reader.{Reader}
 use Rattle.sise_parser.proofs.Calls.{next-unsound}
 use Rattle.sise_parser.proofs.ReaderLaws.{fresh-sound}
-use Rattle.sise_tree.specs.Tree.{atom, size, tableAt}
+use Rattle.sise_tree.specs.Tree.{atom, size, kindAt, tableAt}
 use Rattle.sise_tree.specs.Decision.{decide}
 use Rattle.sise_tree.specs.Answers.{answered, refusedWith}
 use Rattle.sise_tree.specs.ParseTree.{longest, top, attach, turn, got, readStage, readAnswer, readFrom, readNode, filledWith, Parses, parsed, parseTree}
@@ -34,7 +37,7 @@ module _ (text : List ℕ) (at : length text ≡ 16777216) where
   unfolding parseText
   text-at words = rw not-over
 
-  pub path-at : (words path : List ℕ) → indexPath words text path ≡ indexedIn (decide (length text) words) path
+  pub path-at : (words path : List ℕ) → indexPath words text path ≡ indexedIn (decide text words) path
   unfolding indexPath
   path-at words path = rw not-over
 
@@ -42,7 +45,7 @@ module _ (text : List ℕ) (at : length text ≡ 16777216) where
   pub unsound-at : (r : Reader) (words : List ℕ) → isSound (length text) r ≡ false → parseTree text r words ≡ record { reader = r; answer = refusedWith 11; words = words }
   unfolding parsed readNode readFrom readAnswer
   unsound-at r words h =
-      parse-at r words ∙ ap (λ (x : Next). parsed r words (readAnswer (readFrom (length text) text (x .reader)) (x .reader) top (x .answer))) (sym (next-unsound text r h))
+      parse-at r words ∙ ap (λ (x : Next). parsed r words (readAnswer text (readFrom (length text) text (x .reader)) (x .reader) top (x .answer))) (sym (next-unsound text r h))
 
 module _ (text : List ℕ) (over : length text ≡ 16777217) where
   pub is-over : ltb longest (length text) ≡ true
@@ -75,9 +78,13 @@ module _ (rest : List ℕ) where
   unfolding nextItem nextIn tokenAt inBeginning between plain classOf within
   its-item = rw (fresh-sound (length long), nextItem)
 
-  its-node : readNode long freshReader ≡ got (atom 0 1) (reader 1 Finishing 0)
+  its-kind : kindAt long 0 1 ≡ 1
+  unfolding kindPrefix kindOf isAtom outside hasQuote classOf within
+  its-kind = rw (le-leb 1 (length long) (omega arith), kindPrefix)
+
+  its-node : readNode long freshReader ≡ got (atom 1 0 1) (reader 1 Finishing 0)
   unfolding readNode readFrom readAnswer readStage turn attach
-  its-node = ap (λ (x : Next). readAnswer (readFrom (length long) long (x .reader)) (x .reader) top (x .answer)) its-item
+  its-node = ap (λ (x : Next). readAnswer long (readFrom (length long) long (x .reader)) (x .reader) top (x .answer)) its-item ∙ ap (λ (k : ℕ). got (atom k 0 1) (reader 1 Finishing 0)) its-kind
 
   pub longest-text : length long ≡ 16777216 → parseTree long freshReader (replicate 4 9) ≡ record { reader = reader 1 Finishing 0; answer = answered 1; words = 1 ∷ 0 ∷ 1 ∷ 1 ∷ [] }
   unfolding parsed filledWith tableAt size

@@ -7,7 +7,7 @@ use mathlib.Core.Path.{_≡_, refl, sym, ap, _∙_, subst}
 use mathlib.Core.List.{List, [], _∷_, _++_, append-assoc}
 use lib.ListN.{length, drop}
 use Rattle.sise_tree.specs.Tree.{Node, atom, list, Nodes, empty, _then_, size, sizes, children, tableAt, tables, kind, first, second, span}
-use Rattle.sise_tree.proofs.TreeLaws.{size-pos, holds-words}
+use Rattle.sise_tree.proofs.TreeLaws.{Kinded, KindedAll, kinded, size-pos, holds-words}
 use Rattle.sise_tree.proofs.LocalLaws.{stands, skip, Held}
 
 module _ (words : List ℕ) where
@@ -19,6 +19,7 @@ module _ (words : List ℕ) where
     pub spelt : drop (4 * i) words ≡ tables distance c ++ drop (4 * (i + sizes c)) words
     pub stop : i + sizes c ≡ cur + span words cur
     pub fit : 4 * (i + sizes c) ≤ length words
+    pub kinds : KindedAll c
 
   -- the list `cur` is a child: its third word leads back to its parent, of which the nodes d are left behind its span
   pub record Child (cur : ℕ) (d : Nodes) : Type 0 where
@@ -37,8 +38,9 @@ module _ (words : List ℕ) where
     pub around : Around cur o
 
   -- it is at an atom, and then behind it
-  pub record AtomNext (cur i p m : ℕ) (c : Nodes) (o : List Nodes) : Type 0 where
-    pub kinds : kind words i ≡ 1
+  pub record AtomNext (cur i k p m : ℕ) (c : Nodes) (o : List Nodes) : Type 0 where
+    pub kinds : kind words i ≡ k
+    pub some : kind words i ≡ 0 → ⊥
     pub places : first words i ≡ p
     pub lengths : second words i ≡ m
     pub next : Walk cur (i + 1) c o
@@ -55,7 +57,7 @@ module _ (words : List ℕ) where
   past :
       {cur i : ℕ} (n : Node) (c : Nodes) (r : Rest cur i (n then c))
       → (drop (4 * i) words ≡ tableAt (r .distance) n ++ drop (4 * (i + size n)) words) × Rest cur (i + size n) c
-  unfolding tables sizes
+  unfolding tables sizes KindedAll
   past {i = i} n c r =
       let d = r .distance in
       let z : i + (size n + sizes c) ≡ i + size n + sizes c = omega arith in
@@ -70,18 +72,19 @@ module _ (words : List ℕ) where
           spelt = next;
           stop = omega (arith, r .stop);
           fit = omega (arith, r .fit);
+          kinds = r .kinds .1;
         },
       )
 
-  pub walk-atom : {cur i : ℕ} (p m : ℕ) (c : Nodes) (o : List Nodes) → Walk cur i (atom p m then c) o → AtomNext cur i p m c o
-  unfolding tableAt size
-  walk-atom {i = i} p m c o w =
-      let (its, next) = past (atom p m) c (w .rest) in
+  pub walk-atom : {cur i : ℕ} (k p m : ℕ) (c : Nodes) (o : List Nodes) → Walk cur i (atom k p m then c) o → AtomNext cur i k p m c o
+  unfolding tableAt size Kinded KindedAll
+  walk-atom {i = i} k p m c o w =
+      let (its, next) = past (atom k p m) c (w .rest) in
       let s = stands words i its in
-      record { kinds = s .kinds; places = s .firsts; lengths = s .seconds; next = record { rest = next; around = w .around } }
+      record { kinds = s .kinds; some = λ z. w .rest .kinds .0 (sym (s .kinds) ∙ z); places = s .firsts; lengths = s .seconds; next = record { rest = next; around = w .around } }
 
   pub walk-list : {cur i : ℕ} (d c : Nodes) (o : List Nodes) → Walk cur i (list d then c) o → ListNext cur i d c o
-  unfolding Around tableAt size
+  unfolding Around tableAt size Kinded KindedAll
   walk-list {cur} {i} d c o w =
       let r = w .rest in
       let (its, next) = past (list d) c r in
@@ -101,6 +104,7 @@ module _ (words : List ℕ) where
             spelt = rw z at (s .after);
             stop = omega (arith, s .spans);
             fit = omega (arith, next .fit);
+            kinds = r .kinds .0;
           };
           around = (
             record { away = omega (arith, s .seconds, r .after); within = omega (arith, s .seconds, r .behind); rest = rw (parent, s .spans) next },
@@ -134,11 +138,11 @@ module _ (words : List ℕ) where
       (omega (arith, r .behind, r .after), omega (arith, r .stop, within-first cur o (w .around)))
 
 -- from a first node that is a list
-pub walk-root : {l : ℕ} {words : List ℕ} (c : Nodes) → Held l words (list c) → Walk words 0 1 c []
-unfolding Around tableAt size
-walk-root {words = words} c h =
+pub walk-root : {l words : List ℕ} (c : Nodes) → Held l words (list c) → Walk words 0 1 c []
+unfolding Around tableAt size Kinded
+walk-root {l} {words} c h =
     let s = stands words 0 (holds-words (h .holds)) in
     record {
-      rest = record { distance = 1; behind = refl; after = omega arith; spelt = s .after; stop = omega (arith, s .spans); fit = omega (arith, h .fits) };
+      rest = record { distance = 1; behind = refl; after = omega arith; spelt = s .after; stop = omega (arith, s .spans); fit = omega (arith, h .fits); kinds = kinded l (list c) (h .holds .inText) };
       around = refl;
     }

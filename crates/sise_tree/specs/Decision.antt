@@ -4,9 +4,9 @@ use Prim.Native.Nat.{ℕ, zero, suc, _+_}
 use mathlib.Core.Bool.{Bool, true, false}
 use mathlib.Core.Option.{Option, none, some}
 use mathlib.Core.List.{List, [], _∷_}
-use lib.Dec.{leb, eqb}
+use lib.Dec.{eqb}
 use lib.ListN.{length}
-use Rattle.sise_tree.specs.Tree.{Node, atom, list, Nodes, empty, _then_, sizes, second}
+use Rattle.sise_tree.specs.Tree.{Node, atom, list, Nodes, empty, _then_, sizes, sits, second}
 
 -- an answer, if the test holds
 unfoldable pub guard : {A : Type 0} → Bool → Option A → Option A
@@ -31,22 +31,21 @@ pub record Read : Type 0 where
 unfoldable pub ahead : Node → Read → Read
 ahead n r = record { nodes = n then r .nodes; rest = r .rest }
 
--- so many nodes from the words on, the first of which stands d nodes behind their parent, over a text of l bytes; the first number bounds the nodes
-unfoldable pub row : ℕ → ℕ → ℕ → ℕ → List ℕ → Option Read
-row zero l d c ws = none
-row (suc f) l d zero ws = some (record { nodes = empty; rest = ws })
-row (suc f) l d (suc c) [] = none
-row (suc f) l d (suc c) (k ∷ []) = none
-row (suc f) l d (suc c) (k ∷ a ∷ []) = none
-row (suc f) l d (suc c) (k ∷ a ∷ b ∷ []) = none
-row (suc f) l d (suc c) (k ∷ a ∷ b ∷ s ∷ ws) =
-    elim (eqb k 1) [
-      | true ↦ guard (eqb s 1) (guard (leb (a + b) l) (bind (row f l (d + 1) c ws) (λ r. some (ahead (atom a b) r))))
-      | false ↦
-          guard (eqb k 0)
-          (guard (eqb b d)
-          (bind (row f l 1 a ws)
-          (λ r. guard (eqb s (1 + sizes (r .nodes))) (bind (row f l (d + s) c (r .rest)) (λ q. some (ahead (list (r .nodes)) q))))))
+-- so many nodes from the words on, the first of which stands d nodes behind their parent, over a text; the first number bounds the nodes
+unfoldable pub row : ℕ → List ℕ → ℕ → ℕ → List ℕ → Option Read
+row zero text d c ws = none
+row (suc f) text d zero ws = some (record { nodes = empty; rest = ws })
+row (suc f) text d (suc c) [] = none
+row (suc f) text d (suc c) (k ∷ []) = none
+row (suc f) text d (suc c) (k ∷ a ∷ []) = none
+row (suc f) text d (suc c) (k ∷ a ∷ b ∷ []) = none
+row (suc f) text d (suc c) (k ∷ a ∷ b ∷ s ∷ ws) =
+    elim (eqb k 0) [
+      | true ↦
+          guard (eqb b d)
+          (bind (row f text 1 a ws)
+          (λ r. guard (eqb s (1 + sizes (r .nodes))) (bind (row f text (d + s) c (r .rest)) (λ q. some (ahead (list (r .nodes)) q)))))
+      | false ↦ guard (eqb s 1) (guard (sits text k a b) (bind (row f text (d + 1) c ws) (λ r. some (ahead (atom k a b) r))))
     ]
 
 -- the node of a row of one
@@ -54,7 +53,7 @@ unfoldable pub only : Nodes → Option Node
 only empty = none
 only (n then c) = some n
 
--- the tree that the words hold, over a text of l bytes: `some n` exactly if they hold n (proofs/DecisionLaws.antt); the first node's third word is compared
+-- the tree that the words hold, over a text: `some n` exactly if they hold n (proofs/DecisionLaws.antt); the first node's third word is compared
 -- with itself, and so not looked at
-unfoldable pub decide : ℕ → List ℕ → Option Node
-decide l words = bind (row (suc (length words)) l (second words 0) 1 words) (λ r. only (r .nodes))
+unfoldable pub decide : List ℕ → List ℕ → Option Node
+decide text words = bind (row (suc (length words)) text (second words 0) 1 words) (λ r. only (r .nodes))

@@ -6,12 +6,12 @@ use mathlib.Core.List.{List}
 use Rattle.sise_parser.specs.Reader.{item, next, nextItem}
 use Rattle.sise_parser.specs.declared.reader.Reader.{Reader}
 use Rattle.sise_parser.specs.declared.reader.ParsedItem.the-variants.{Atom, ListStart, ListEnd}
-use Rattle.sise_tree.specs.Tree.{Node, atom, list, Nodes, empty, _then_}
+use Rattle.sise_tree.specs.Tree.{Node, atom, list, Nodes, empty, _then_, kindAt}
 
 mutual
   -- from the record r on, calls of next_item read the node and leave the record q
   pub data ReadsNode (text : List ℕ) : Reader → Node → Reader → Type 0 where
-    one : {r q : Reader} {p n : ℕ} → nextItem text r ≡ next q (item (Atom p n)) → ReadsNode text r (atom p n) q
+    one : {r q : Reader} {k p n : ℕ} → nextItem text r ≡ next q (item (Atom p n)) → k ≡ kindAt text p n → ReadsNode text r (atom k p n) q
     many : {r s t q : Reader} {c : Nodes} {p e : ℕ} → nextItem text r ≡ next s (item (ListStart p)) → ReadsNodes text s c t
         → nextItem text t ≡ next q (item (ListEnd e)) → ReadsNode text r (list c) q
 

@@ -1,6 +1,6 @@
 -- What the private functions of parse_tree do: the node that is due is counted, and then filled into the table, item after item.
 -- Assumes nothing.
-use Prim.Native.Nat.{ℕ, suc, _+_, _*_, _/_, _^_, _≤_, _<_}
+use Prim.Native.Nat.{ℕ, suc, _+_, _-_, _*_, _/_, _^_, _≤_, _<_}
 use mathlib.Core.Path.{_≡_}
 use mathlib.Core.Bool.{true}
 use mathlib.Core.List.{List, [], _∷_, _++_}
@@ -10,7 +10,7 @@ use Rattle.sise_parser.specs.declared.reader.Phase.{Phase}
 use Rattle.sise_parser.specs.declared.reader.Reader.{Reader}
 use Rattle.sise_parser.specs.declared.reader.ParsedItem.{ParsedItem}
 use Rattle.sise_parser.specs.declared.reader.ParsedItem.the-variants.{Atom, ListStart, ListEnd}
-use Rattle.sise_tree.specs.Tree.{Node, list, Nodes, size, sizes, children, tableAt, table, tables}
+use Rattle.sise_tree.specs.Tree.{Node, list, Nodes, size, sizes, children, kindAt, tableAt, table, tables}
 use Rattle.sise_tree.specs.Answers.{Answer, answered, refused, parsedAs}
 use Rattle.sise_tree.specs.ParseTree.{longest, Frames, top, _▹_, Stage, inside, whole, closes, attach, turn, ReadNode, got, stopped, readFrom, readNode, filledWith}
 use Rattle.sise_tree.specs.declared.parse.TreeRead.{TreeRead}
@@ -151,25 +151,34 @@ EndsAt e (ListStart p) = Unit {0}
 EndsAt e (ListEnd p) = Unit {0}
 
 -- an item, behind which the reader is at e, is one that may come, and what it leads to has room in n words of 32 bits
-pub record Fits (n : ℕ) (f : Frames) (i : ParsedItem) (e : ℕ) : Type 0 where
-  pub due : (p : ℕ) → turn f i ≡ closes p → ⊥
-  pub room : filledIn (turn f i) ≤ n / 4
-  pub small : filledIn (turn f i) + 1 < 2 ^ 32
+pub record Fits (text : List ℕ) (n : ℕ) (f : Frames) (i : ParsedItem) (e : ℕ) : Type 0 where
+  pub due : (p : ℕ) → turn text f i ≡ closes p → ⊥
+  pub room : filledIn (turn text f i) ≤ n / 4
+  pub small : filledIn (turn text f i) + 1 < 2 ^ 32
   pub ends : EndsAt e i
   pub short : e < 2 ^ 32
+  pub inside : e ≤ length text
 
-abbrev pub CanTurn : List ℕ → Mark → ParsedItem → ℕ → Type 0
-CanTurn words m i e = (w₀ : List ℕ) × (f : Frames) × Shows w₀ (inside f) words m × Fits (length words) f i e
+abbrev pub CanTurn : List ℕ → List ℕ → Mark → ParsedItem → ℕ → Type 0
+CanTurn text words m i e = (w₀ : List ℕ) × (f : Frames) × Shows w₀ (inside f) words m × Fits text (length words) f i e
 
-abbrev pub Turns : List ℕ → Mark → ParsedItem → ℕ → Mark → List ℕ → Type 0
-Turns words m i e r now = (w₀ : List ℕ) (f : Frames) → Shows w₀ (inside f) words m → Fits (length words) f i e → Shows w₀ (turn f i) now r
+abbrev pub Turns : List ℕ → List ℕ → Mark → ParsedItem → ℕ → Mark → List ℕ → Type 0
+Turns text words m i e r now = (w₀ : List ℕ) (f : Frames) → Shows w₀ (inside f) words m → Fits text (length words) f i e → Shows w₀ (turn text f i) now r
+
+-- an atom's turn over a text where its kind has that number
+abbrev pub CanPut : List ℕ → ℕ → ℕ → ℕ → ℕ → ℕ → Type 0
+CanPut words next parent k p e = (text : List ℕ) × (k ≡ kindAt text p (e - p)) × CanTurn text words (mark next parent) (Atom p (e - p)) e
+
+abbrev pub Puts : List ℕ → ℕ → ℕ → ℕ → ℕ → ℕ → List ℕ → Type 0
+Puts words next parent k p e now =
+    (text : List ℕ) → k ≡ kindAt text p (e - p) → Turns text words (mark next parent) (Atom p (e - p)) e (mark (next + 1) parent) now
 
 -- a list's start, wherever it stands
 abbrev pub CanStart : List ℕ → Mark → Type 0
-CanStart words m = (p : ℕ) × (e : ℕ) × CanTurn words m (ListStart p) e
+CanStart words m = (text : List ℕ) × (p : ℕ) × (e : ℕ) × CanTurn text words m (ListStart p) e
 
 abbrev pub Starts : List ℕ → Mark → Mark → List ℕ → Type 0
-Starts words m r now = (p e : ℕ) → Turns words m (ListStart p) e r now
+Starts words m r now = (text : List ℕ) (p e : ℕ) → Turns text words m (ListStart p) e r now
 
 -- the node that is due is known to be one, and to have room
 pub record Fillable (text : List ℕ) (r : Reader) (words : List ℕ) (n : Node) (q : Reader) : Type 0 where

@@ -14,8 +14,8 @@ use Rattle.sise_tree.specs.Answers.{Answer, answered, refusedWith}
 unfoldable mutual
   -- "a path of 64-bit child indices from 0 and answers the node's index; the empty path gives 0": from the node n, whose index is i
   pub nodeAt : Node → ℕ → List ℕ → Option ℕ
-  nodeAt (atom p m) i [] = some i
-  nodeAt (atom p m) i (k ∷ path) = none
+  nodeAt (atom w p m) i [] = some i
+  nodeAt (atom w p m) i (k ∷ path) = none
   nodeAt (list c) i [] = some i
   nodeAt (list c) i (k ∷ path) = childAt c (i + 1) k path
 
@@ -38,4 +38,4 @@ indexedIn (some n) path = indexed (nodeAt n 0 path)
 -- "`index_path`: 13, 15, 16"
 unfoldable pub indexPath : List ℕ → List ℕ → List ℕ → Answer
 indexPath words text path =
-    cond (ltb longest (length text)) (refusedWith 13) (indexedIn (decide (length text) words) path)
+    cond (ltb longest (length text)) (refusedWith 13) (indexedIn (decide text words) path)

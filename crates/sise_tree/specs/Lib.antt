@@ -1,5 +1,6 @@
 pub mod Tree
 pub mod Decision
+pub mod Held
 pub mod Answers
 pub mod ParseTree
 pub mod ParseText

@@ -6,6 +6,7 @@ use mathlib.Core.List.{List, [], _∷_}
 use lib.ListN.{replicate}
 use Rattle.sise_util.specs.Chars.{within}
 use Rattle.sise_util.specs.Classes.{classOf}
+use Rattle.sise_util.specs.Atom.{kindPrefix, kindOf, isAtom, outside, inside, escaped, hasQuote, isString, endsString, endsEscaped}
 use Rattle.sise_util.specs.Utf8.{character, byRows, forms, follow}
 use Rattle.sise_parser.specs.Refusals.{refusal}
 use Rattle.sise_parser.specs.Lexer.{wrong, between, comment, plain, string, escape}
@@ -25,20 +26,20 @@ pub worked-tree : parseTree workedText freshReader (replicate 26 9) ≡ record {
       1 ∷ 1 ∷ 1 ∷ 1 ∷
       0 ∷ 2 ∷ 2 ∷ 3 ∷
       1 ∷ 4 ∷ 2 ∷ 1 ∷
-      1 ∷ 7 ∷ 5 ∷ 1 ∷
+      2 ∷ 7 ∷ 5 ∷ 1 ∷
       1 ∷ 14 ∷ 1 ∷ 1 ∷
       9 ∷ 9 ∷ [];
 }
-unfolding workedText parseTree parsed filledWith readNode readFrom readAnswer readStage turn close attach snoc tableAt tables size sizes children nextItem nextIn isSound tokenAt inBeginning inParsing between comment plain string escape classOf within
+unfolding workedText parseTree parsed filledWith readNode readFrom readAnswer readStage turn close attach snoc tableAt kindPrefix kindOf isAtom outside inside escaped hasQuote isString endsString endsEscaped tables size sizes children nextItem nextIn isSound tokenAt inBeginning inParsing between comment plain string escape classOf within
 worked-tree = refl
 
 -- after its `z`: the inner list is read as a tree of its own, whose root it is, and the reader is behind it
 pub inner-tree : parseTree workedText (reader 2 Parsing 1) (replicate 12 9) ≡ record {
   reader = reader 13 Parsing 1;
   answer = answered 3;
-  words = 0 ∷ 2 ∷ 0 ∷ 3 ∷ 1 ∷ 4 ∷ 2 ∷ 1 ∷ 1 ∷ 7 ∷ 5 ∷ 1 ∷ [];
+  words = 0 ∷ 2 ∷ 0 ∷ 3 ∷ 1 ∷ 4 ∷ 2 ∷ 1 ∷ 2 ∷ 7 ∷ 5 ∷ 1 ∷ [];
 }
-unfolding workedText parseTree parsed filledWith readNode readFrom readAnswer readStage turn close attach snoc tableAt tables size sizes children nextItem nextIn isSound tokenAt inBeginning inParsing between comment plain string escape classOf within
+unfolding workedText parseTree parsed filledWith readNode readFrom readAnswer readStage turn close attach snoc tableAt kindPrefix kindOf isAtom outside inside escaped hasQuote isString endsString endsEscaped tables size sizes children nextItem nextIn isSound tokenAt inBeginning inParsing between comment plain string escape classOf within
 inner-tree = refl
 
 -- row 12: `()` after its list start

@@ -12,7 +12,7 @@ use Rattle.sise_parser.specs.Reader.{nextItem}
 use Rattle.sise_parser.specs.declared.reader.Reader.{Reader}
 use Rattle.sise_parser.specs.declared.reader.ParsedItem.{ParsedItem}
 use Rattle.sise_parser.specs.declared.reader.ParsedItem.the-variants.{Atom, ListStart, ListEnd}
-use Rattle.sise_tree.specs.Tree.{Node, atom, list, Nodes, empty, _then_, size, table}
+use Rattle.sise_tree.specs.Tree.{Node, atom, list, Nodes, empty, _then_, size, kindAt, table}
 use Rattle.sise_tree.specs.Answers.{Answer, answered, refused, refusedWith, parsedAs}
 use Rattle.sise_tree.specs.declared.parse.TreeRead.{TreeRead}
 
@@ -46,11 +46,11 @@ unfoldable pub close : Frames → ℕ → Stage
 close top p = closes p
 close (f ▹ c) p = attach f (list c)
 
--- what an item makes of it
-unfoldable pub turn : Frames → ParsedItem → Stage
-turn f (Atom p n) = attach f (atom p n)
-turn f (ListStart p) = inside (f ▹ empty)
-turn f (ListEnd p) = close f p
+-- what an item of a text makes of it
+unfoldable pub turn : List ℕ → Frames → ParsedItem → Stage
+turn text f (Atom p n) = attach f (atom (kindAt text p n) p n)
+turn text f (ListStart p) = inside (f ▹ empty)
+turn text f (ListEnd p) = close f p
 
 -- what reading a node gives: the node, or the first refusal, and the record that the last call left
 pub data ReadNode : Type 0 where
@@ -64,14 +64,14 @@ readStage on r (whole n) = got n r
 readStage on r (closes p) = stopped (refusal 12 p 0) r
 
 -- what the call's answer does; "a text refusal leaves the reader as the inner next_item did"
-unfoldable pub readAnswer : (Frames → ReadNode) → Reader → Frames → reader.Answer → ReadNode
-readAnswer on r f (reader.Answer.item i) = readStage on r (turn f i)
-readAnswer on r f (reader.Answer.refused e) = stopped e r
+unfoldable pub readAnswer : List ℕ → (Frames → ReadNode) → Reader → Frames → reader.Answer → ReadNode
+readAnswer text on r f (reader.Answer.item i) = readStage on r (turn text f i)
+readAnswer text on r f (reader.Answer.refused e) = stopped e r
 
 -- item after item, with these lists open; the first number bounds the items
 unfoldable pub readFrom : ℕ → List ℕ → Reader → Frames → ReadNode
 readFrom zero text r f = stopped (refusal 11 0 0) r
-readFrom (suc k) text r f = let x = nextItem text r in readAnswer (readFrom k text (x .reader)) (x .reader) f (x .answer)
+readFrom (suc k) text r f = let x = nextItem text r in readAnswer text (readFrom k text (x .reader)) (x .reader) f (x .answer)
 
 -- "A reader over n bytes gives at most n items", so one call more is enough
 unfoldable pub readNode : List ℕ → Reader → ReadNode

@@ -2,19 +2,24 @@
 -- Assumes nothing.
 use Prim.Native.Nat.{ℕ, zero, suc, _+_, _-_, _/_, _<_}
 use mathlib.Core.Path.{_≡_}
-use mathlib.Core.Bool.{Bool, true, _&&_}
+use mathlib.Core.Bool.{Bool, true, _&&_, cond}
 use mathlib.Core.List.{List}
-use lib.Dec.{ltb}
-use lib.ListN.{length}
-use Rattle.sise_tree.specs.Tree.{span, fillsIn, good}
+use lib.Dec.{ltb, eqb}
+use lib.ListN.{length, drop}
+use Rattle.sise_util.specs.Atom.{isAtomPrefix}
+use Rattle.sise_tree.specs.Tree.{kind, first, second, span, fillsIn, good}
 
 -- from node i on, so many children of a list, whichever it is, fill it up to node e exactly if the last of them do, after r of them with the span 1
 abbrev pub SameFrom : List ℕ → ℕ → ℕ → ℕ → ℕ → Type 0
 SameFrom words c i e r = (p : ℕ) → fillsIn words p (c - r) (i + r) e ≡ fillsIn words p c i e
 
 -- node i is in the table, and good
-unfoldable pub goodIn : ℕ → List ℕ → ℕ → Bool
-goodIn l words i = ltb i (length words / 4) && good l words i
+unfoldable pub goodIn : List ℕ → List ℕ → ℕ → Bool
+goodIn text words i = ltb i (length words / 4) && good text words i
+
+-- node i, if an atom, is one
+unfoldable pub atomHoldsAt : List ℕ → List ℕ → ℕ → Bool
+atomHoldsAt text words i = cond (eqb (kind words i) 0) true (isAtomPrefix (drop (first words i) text) (second words i))
 
 -- the index of the node that comes after so many nodes, from node i on
 unfoldable pub stepped : List ℕ → ℕ → ℕ → ℕ

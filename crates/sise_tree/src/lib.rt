@@ -7,6 +7,7 @@ mod whole;
 pub use parse::ParsedTree;
 pub use parse::TreeRead;
 pub use parse::parse_tree;
+pub use tree::Held;
 pub use tree::Indexed;
 pub use tree::LONGEST;
 pub use tree::holds_tree;

@@ -9,14 +9,15 @@ use sise_parser::atom_run;
 use sise_parser::is_quote_at;
 use sise_parser::item_ahead;
 use sise_parser::skip_blanks;
+use sise_util::check_atom_prefix;
 ghost use mathlib.Core.Path.{_≡_};
 ghost use Prim.Native.Nat.{_≤_, _<_, _+_, _-_, _/_};
 ghost use lib.ListN.{length};
 ghost use Rattle.sise_parser.specs.Meaning.{answerAs};
-ghost use Rattle.sise_parser.specs.declared.reader.ParsedItem.the-variants.{Atom};
+ghost use Rattle.sise_tree.specs.Tree.{kindAt};
 ghost use Rattle.sise_tree.specs.Answers.{parsedAs, numberOf, placeOf, codeOf};
 ghost use Rattle.sise_tree.specs.ParseTree.{readNode, parseTree, DoesParse};
-ghost use Rattle.sise_tree.specs.Filling.{settledAs, DoesCount, CountsOn, mark, putAt, CanAttach, Attaches, CanClose, Closes, CanTurn, Turns, CanStart, Starts, CanFill, DoesFill, CanFillOn, FillsOn};
+ghost use Rattle.sise_tree.specs.Filling.{settledAs, DoesCount, CountsOn, mark, putAt, CanAttach, Attaches, CanClose, Closes, CanPut, Puts, CanTurn, Turns, CanStart, Starts, CanFill, DoesFill, CanFillOn, FillsOn};
 
 // What parse_tree answers: the number of nodes, or a refusal.
 pub enum ParsedTree {
@@ -245,13 +246,22 @@ fn close_list(table: &mut [u32], next: u32, parent: u32) -> u32
     outer
 }
 
-// An atom from `pos` to `end` is written, and counted as a child.
-fn put_atom(table: &mut [u32], next: u32, parent: u32, pos: usize, end: usize)
-    requires { ⌜ CanTurn (now table) (mark next parent) (Atom pos (end - pos)) end ⌝ }
-    ensures { λ r. ⌜ Turns (now (table .entry)) (mark next parent) (Atom pos (end - pos)) end (mark (next + 1) parent) (now (table .exit)) ⌝ }
+// The first word of the atom from `pos` to `end`.
+fn kind_at(text: &[u8], pos: usize, end: usize) -> u32
+    requires { ⌜ (pos ≤ end) × (end ≤ length (now text)) ⌝ }
+    ensures { λ r. ⌜ r ≡ kindAt (now (text .entry)) pos (end - pos) ⌝ }
+{
+    let kind = check_atom_prefix(&text[pos..], end - pos);
+    kind.number()
+}
+
+// An atom from `pos` to `end` is written with its kind, and counted as a child.
+fn put_atom(table: &mut [u32], next: u32, parent: u32, kind: u32, pos: usize, end: usize)
+    requires { ⌜ CanPut (now table) next parent kind pos end ⌝ }
+    ensures { λ r. ⌜ Puts (now (table .entry)) next parent kind pos end (now (table .exit)) ⌝ }
 {
     let len = end - pos;
-    put(table, wide(next), 1, pos as u32, len as u32, 1);
+    put(table, wide(next), kind, pos as u32, len as u32, 1);
     count_child(table, parent, next);
 }
 
@@ -265,15 +275,16 @@ fn put_start(table: &mut [u32], next: u32, parent: u32)
 
 // An item that ends at `end` is written. An atom's length is worked out from it, since place and length, read together where item_ahead wrote them one by
 // one, would cost more.
-fn put_item(table: &mut [u32], mark: Mark, item: ParsedItem, end: usize) -> Mark
-    requires { ⌜ CanTurn (now table) mark item end ⌝ }
-    ensures { λ r. ⌜ Turns (now (table .entry)) mark item end r (now (table .exit)) ⌝ }
+fn put_item(text: &[u8], table: &mut [u32], mark: Mark, item: ParsedItem, end: usize) -> Mark
+    requires { ⌜ CanTurn (now text) (now table) mark item end ⌝ }
+    ensures { λ r. ⌜ Turns (now (text .entry)) (now (table .entry)) mark item end r (now (table .exit)) ⌝ }
 {
     let next = mark.next;
     let parent = mark.parent;
     match item {
         ParsedItem::Atom { pos, .. } => {
-            put_atom(table, next, parent, pos, end);
+            let kind = kind_at(text, pos, end);
+            put_atom(table, next, parent, kind, pos, end);
             Mark {
                 next: next + 1,
                 parent,
@@ -335,7 +346,7 @@ fn fill_plain(text: &[u8], table: &mut [u32], before: Filled) -> Filled
             if end == start || is_quote_at(text, end) {
                 break;
             }
-            put_atom(table, next, parent, start, end);
+            put_atom(table, next, parent, 1, start, end);
             position = end;
             next += 1;
         }
@@ -364,7 +375,7 @@ pub(crate) fn fill_nodes(text: &[u8], reader: Reader, table: &mut [u32])
         let Answer::Item(item) = answer else {
             return;
         };
-        mark = put_item(table, mark, item, r.position);
+        mark = put_item(text, table, mark, item, r.position);
         if r.lists == reader.lists {
             return;
         }

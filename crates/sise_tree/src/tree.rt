@@ -1,16 +1,31 @@
 // Tables: whether one holds a tree, and the node at the end of a path.
+use sise_util::AtomKind;
+use sise_util::check_atom_prefix;
 ghost use mathlib.Core.Path.{_≡_};
+ghost use mathlib.Core.Bool.{_&&_};
 ghost use Prim.Native.Nat.{_+_, _-_, _*_, _/_, _^_, _≤_, _<_};
 ghost use lib.Dec.{eqb};
 ghost use lib.ListN.{length, getD};
-ghost use Rattle.sise_tree.specs.Tree.{kind, linked, fillsIn};
-ghost use Rattle.sise_tree.specs.Parts.{SameFrom, goodIn, stepped, MoreThan};
-ghost use Rattle.sise_tree.specs.Decision.{decide, isSome};
+ghost use Rattle.sise_util.specs.Atom.{isKind};
+ghost use Rattle.sise_tree.specs.Tree.{kind, linked, fillsIn, fitsKind};
+ghost use Rattle.sise_tree.specs.Parts.{SameFrom, goodIn, atomHoldsAt, stepped, MoreThan};
+ghost use Rattle.sise_tree.specs.Decision.{decide};
+ghost use Rattle.sise_tree.specs.Held.{heldIf, heldAs, isTree};
 ghost use Rattle.sise_tree.specs.IndexPath.{indexPath};
 ghost use Rattle.sise_tree.specs.Answers.{indexedAs, numberOf};
 
 // The longest text of a tree call.
 pub const LONGEST: usize = 16777216;
+
+// What a table holds over a text.
+pub enum Held {
+    // A tree, and each atom of it is one.
+    Tree,
+    // A tree, but the bytes of some atom are none.
+    NoAtom,
+    // No tree.
+    NotATree,
+}
 
 // What index_path answers: the node's index, or a refusal.
 pub enum Indexed {
@@ -79,28 +94,27 @@ fn singles(table: &[u32], left: usize, at: usize, end: usize) -> usize
     run
 }
 
-// Whether node `i`, a child of node `parent`, has the distance to it as its third word, if it is a list.
-fn is_linked(table: &[u32], parent: usize, i: usize) -> bool
-    requires { ⌜ (parent ≤ i) × (i < length (now table) / 4) ⌝ }
-    ensures { λ r. ⌜ r ≡ linked (now (table .entry)) parent i ⌝ }
+// Whether node `i`, a child of the first node, has the distance to it as its third word, if it is a list.
+fn is_linked(table: &[u32], i: usize) -> bool
+    requires { ⌜ i < length (now table) / 4 ⌝ }
+    ensures { λ r. ⌜ r ≡ linked (now (table .entry)) 0 i ⌝ }
 {
     if !is_list(table, i) {
         return true;
     }
-    word(table, i, 2) == i - parent
+    word(table, i, 2) == i
 }
 
-// Whether the spans of so many children of node `parent`, which stand after it, end exactly at node `end`, which is in the table or just past it, and each
+// Whether the spans of so many children of the first node, which stand after it, end exactly at node `end`, which is in the table or just past it, and each
 // list among them has its distance.
-fn fills(table: &[u32], parent: usize, children: usize, end: usize) -> bool
-    requires { ⌜ parent < length (now table) / 4 ⌝ }
-    ensures { λ r. ⌜ r ≡ fillsIn (now (table .entry)) parent children (parent + 1) end ⌝ }
+fn fills(table: &[u32], children: usize, end: usize) -> bool
+    ensures { λ r. ⌜ r ≡ fillsIn (now (table .entry)) 0 children 1 end ⌝ }
 {
     if end > table.len() / 4 {
         return false;
     }
     let mut left = children;
-    let mut at = parent + 1;
+    let mut at = 1;
     while left > 0 {
         if at >= end {
             return false;
@@ -114,7 +128,7 @@ fn fills(table: &[u32], parent: usize, children: usize, end: usize) -> bool
             if span == 0 {
                 return false;
             }
-            if !is_linked(table, parent, at) {
+            if !is_linked(table, at) {
                 return false;
             }
             at += span;
@@ -124,48 +138,94 @@ fn fills(table: &[u32], parent: usize, children: usize, end: usize) -> bool
     at == end
 }
 
-// Whether node `i` is in the table and has one of the two forms. A list's third word is looked at where its parent steps over it.
-fn node_holds(text_len: usize, table: &[u32], i: usize) -> bool
-    ensures { λ r. ⌜ r ≡ goodIn «text_len» (now (table .entry)) i ⌝ }
+// Whether an atom's first word may be `kind`, where its bytes are `atom`: the number of that kind, and each of the three where they are no atom.
+fn kind_holds(kind: u32, atom: AtomKind) -> Held
+    ensures { λ r. ⌜ r ≡ heldIf (fitsKind atom kind) (isKind atom) ⌝ }
 {
-    if i >= table.len() / 4 {
+    let number = atom.number();
+    if number != 0 {
+        if kind == number {
+            return Held::Tree;
+        }
+        return Held::NotATree;
+    }
+    if kind == 0 {
+        return Held::NotATree;
+    }
+    if kind > 3 {
+        return Held::NotATree;
+    }
+    Held::NoAtom
+}
+
+// What the first node is: it is in the table and has one of the two forms, and an atom's bytes are one, or not. A list's third word is looked at where its
+// parent steps over it.
+fn node_holds(text: &[u8], table: &[u32]) -> Held
+    ensures { λ r. ⌜ r ≡ heldIf (goodIn (now (text .entry)) (now (table .entry)) 0) (atomHoldsAt (now (text .entry)) (now (table .entry)) 0) ⌝ }
+{
+    if table.len() < 4 {
+        return Held::NotATree;
+    }
+    let first = word(table, 0, 1);
+    let second = word(table, 0, 2);
+    let span = word(table, 0, 3);
+    if table[0] == 0 {
+        if fills(table, first, span) {
+            return Held::Tree;
+        }
+        return Held::NotATree;
+    }
+    if span != 1 {
+        return Held::NotATree;
+    }
+    if text.len() < first + second {
+        return Held::NotATree;
+    }
+    kind_holds(table[0], check_atom_prefix(&text[first..], second))
+}
+
+// Whether the atoms before a node are atoms, and it is one, if an atom.
+fn are_atoms(all: bool, held: Held) -> bool
+    ensures { λ r. ⌜ r ≡ (all && isTree held) ⌝ }
+{
+    if !all {
         return false;
     }
-    let kind = table[4 * i];
-    let first = word(table, i, 1);
-    let second = word(table, i, 2);
-    let span = word(table, i, 3);
-    match kind {
-        0 => fills(table, i, first, i + span),
-        1 => span == 1 && first + second <= text_len,
-        _ => false,
+    match held {
+        Held::Tree => true,
+        Held::NoAtom => false,
+        Held::NotATree => false,
     }
 }
 
-// Whether the table holds a tree over a text of `text_len` bytes. Each node is tested by itself, which is enough (proofs/LocalLaws.antt), and stepped
-// over once, by its list: the time is linear in the first node's span.
-pub fn holds_tree(text_len: usize, table: &[u32]) -> bool
-    ensures { λ r. ⌜ r ≡ isSome (decide «text_len» (now (table .entry))) ⌝ }
+// What the table holds over the text. Each node is tested by itself, as the first of the part of the table from it on, which is enough
+// (proofs/LocalLaws.antt), and stepped over once, by its list; an atom's bytes are looked at once. So the time is linear in the first node's span and the
+// bytes of its atoms.
+pub fn holds_tree(text: &[u8], table: &[u32]) -> Held
+    ensures { λ r. ⌜ r ≡ heldAs (now (text .entry)) (decide (now (text .entry)) (now (table .entry))) ⌝ }
 {
     let nodes = table.len() / 4;
     if nodes == 0 {
-        return false;
+        return Held::NotATree;
     }
     let end = word(table, 0, 3);
     if end == 0 {
-        return false;
+        return Held::NotATree;
     }
     if end > nodes {
-        return false;
+        return Held::NotATree;
     }
     let mut i = 0;
+    let mut all = true;
     while i < end {
-        if !node_holds(text_len, table, i) {
-            return false;
+        let held = node_holds(text, &table[4 * i..]);
+        if let Held::NotATree = held {
+            return Held::NotATree;
         }
+        all = are_atoms(all, held);
         i += 1;
     }
-    true
+    if all { Held::Tree } else { Held::NoAtom }
 }
 
 // The node that comes after `index` nodes, from node `first` on.
@@ -189,7 +249,7 @@ pub fn index_path(table: &[u32], text: &[u8], path: &[u64]) -> Indexed
     if text.len() > LONGEST {
         return Indexed::TextTooLong;
     }
-    if !holds_tree(text.len(), table) {
+    if let Held::NotATree = holds_tree(text, table) {
         return Indexed::NotATree;
     }
     let mut at = 0;

@@ -78,7 +78,7 @@ run-more s w (c ∷ cs) f b y =
 -- a tree has a first call
 pub tree-begun : (text : List ℕ) (t : ℕ) (n : Node) → (c : Call) × (cs : List Call) × (treeCalls text t n ≡ c ∷ cs)
 unfolding nodeCalls
-tree-begun text t (atom p m) = (putAtomCall (partOf text p m) t, [], refl)
+tree-begun text t (atom k p m) = (putAtomCall (partOf text p m) t, [], refl)
 tree-begun text t (list c) = (beginListCall t, rowCalls text largest t c ++ endListCall ∷ [], refl)
 
 -- which answers, if all fit

@@ -25,7 +25,7 @@ at-0 buffer text words = refl
 
 -- at every threshold
 pub by-calls : (t : ℕ) (buffer text words : List ℕ) {o : ℕ} → houseAt t buffer text words .answer ≡ answered o
-    → (n : Node) × (decide (length text) words ≡ some n) × (houseAt t buffer text words .buffer ≡ writing houseStyle buffer (treeCalls text t n ++ finishCall true ∷ []) .buffer)
+    → (n : Node) × (decide text words ≡ some n) × (houseAt t buffer text words .buffer ≡ writing houseStyle buffer (treeCalls text t n ++ finishCall true ∷ []) .buffer)
 unfolding houseAt textCalls
 by-calls t buffer text words h =
     let k = tree-accepted houseStyle buffer freshSerializer text words (textCalls text t true) h in

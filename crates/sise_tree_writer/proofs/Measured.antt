@@ -17,13 +17,17 @@ use Rattle.sise_serializer.specs.Serializer.{Style, isSound}
 use Rattle.sise_serializer.specs.declared.serializer.Serializer.{Serializer}
 use Rattle.sise_serializer.specs.Calls.{Call, step, run}
 use Rattle.sise_serializer.proofs.Running.{no-zero}
-use Rattle.sise_tree.specs.Tree.{Node}
+use Rattle.sise_tree.specs.Tree.{Node, atomsHold}
 use Rattle.sise_tree.specs.Decision.{decide, isSome}
 use Rattle.sise_tree.specs.ParseTree.{longest}
 use Rattle.sise_tree.specs.Answers.{answered, refusedWith}
-use Rattle.sise_tree.proofs.LocalLaws.{held}
-use Rattle.sise_tree_writer.specs.Answers.{putAs}
-use Rattle.sise_tree_writer.specs.SerializeTree.{atomsHold, fits, Writes, refuse, firstOffset, written, isOver, writeNode, writeTree, DoesMeasure}
+use Rattle.sise_tree.proofs.LocalLaws as local
+use Rattle.sise_tree.specs.Held.{heldAs}
+use Rattle.sise_tree.specs.declared.tree.Held.{Held}
+use Rattle.sise_tree.specs.declared.tree.Held.the-variants as held
+use Rattle.sise_tree.proofs.HeldLaws.{flawed-held, none-held}
+use Rattle.sise_tree_writer.specs.Answers.{putAs, refusalOf}
+use Rattle.sise_tree_writer.specs.SerializeTree.{fits, Writes, refuse, firstOffset, written, isOver, writeNode, writeTree, DoesMeasure}
 use Rattle.sise_tree_writer.specs.Writing.{Checked}
 use Rattle.sise_tree_writer.specs.Walking.{after, firstAnswer, Finds, all, off}
 use Rattle.sise_tree_writer.specs.declared.measure.Walked.{Walked}
@@ -55,7 +59,7 @@ refused-measures b w a e q = rw q (record { serializer = refl; answer = e })
 
 -- ---- the checks, in their order
 
-none-decided : (l : ℕ) (words : List ℕ) → isSome (decide l words) ≡ false → decide l words ≡ none
+none-decided : (l words : List ℕ) → isSome (decide l words) ≡ false → decide l words ≡ none
 unfolding isSome
 none-decided l words h = of (decide l words) h
   where
@@ -74,15 +78,15 @@ module _ (s : Style) (b : List ℕ) (w : Serializer) (text words : List ℕ) (ca
     tree-unsound h = rw (le-ltb longest (length text) short, h)
 
     module _ (fine : isSound w ≡ true) where
-      decided : {d : Option Node} → decide (length text) words ≡ d → writeTree s b w text words calls ≡ writeNode s b w text calls d
+      decided : {d : Option Node} → decide text words ≡ d → writeTree s b w text words calls ≡ writeNode s b w text calls d
       unfolding writeTree
       decided e = rw (le-ltb longest (length text) short, fine) (ap (writeNode s b w text calls) e)
 
-      pub tree-none : isSome (decide (length text) words) ≡ false → writeTree s b w text words calls ≡ refuse 15 b w
+      pub tree-none : isSome (decide text words) ≡ false → writeTree s b w text words calls ≡ refuse 15 b w
       unfolding writeNode
-      tree-none h = decided (none-decided (length text) words h)
+      tree-none h = decided (none-decided text words h)
 
-      module _ {n : Node} (d : decide (length text) words ≡ some n) where
+      module _ {n : Node} (d : decide text words ≡ some n) where
         pub tree-atoms : atomsHold text n ≡ false → writeTree s b w text words calls ≡ refuse 17 b w
         unfolding writeNode
         tree-atoms h = decided d ∙ rw h
@@ -91,24 +95,35 @@ module _ (s : Style) (b : List ℕ) (w : Serializer) (text words : List ℕ) (ca
         unfolding writeNode
         tree-over h o = decided d ∙ rw (h, o)
 
-      pub tree-in : writeTree s b w text words calls ≡ writeNode s b w text calls (decide (length text) words)
+      pub tree-in : writeTree s b w text words calls ≡ writeNode s b w text calls (decide text words)
       tree-in = decided refl
 
   -- once the tests are passed, the tree that the table holds decides
   pub node-checked : Checked text words → isOver (w .phase) ≡ false → {r : TreeWrote}
-      → ((n : Node) → decide (length text) words ≡ some n → DoesMeasure (written s b w (calls n)) r)
-      → DoesMeasure (writeNode s b w text calls (decide (length text) words)) r
+      → ((n : Node) → decide text words ≡ some n → DoesMeasure (written s b w (calls n)) r)
+      → DoesMeasure (writeNode s b w text calls (decide text words)) r
   unfolding writeNode
-  node-checked k o f = let (n, d, h) = held (length text) words (k .holds) in rw (d, k .atoms n d, o) (f n d)
+  node-checked k o f = let (n, d, h) = local.held text words (k .holds) in rw (d, k .atoms n d, o) (f n d)
+
+-- what the table holds is no tree of atoms: 15 or 17
+pub unheld-measures : (s : Style) (b : List ℕ) (w : Serializer) (text words : List ℕ) (calls : Node → List Call) → length text ≤ longest → isSound w ≡ true
+    → (h : Held) → h ≡ heldAs text (decide text words) → (h ≡ held.Tree → ⊥) → {r : TreeWrote} → r ≡ record { serializer = w; answer = refusalOf h }
+    → DoesMeasure (writeTree s b w text words calls) r
+unheld-measures s b w text words calls short fine held.Tree e f q = absurd (f refl)
+unheld-measures s b w text words calls short fine held.NoAtom e f q =
+    let (n, d, a) = flawed-held text (decide text words) e refl in
+    rw (tree-atoms s b w text words calls short fine d a) (refused-measures b w InvalidAtom refl q)
+unheld-measures s b w text words calls short fine held.NotATree e f q =
+    rw (tree-none s b w text words calls short fine (none-held text (decide text words) e refl)) (refused-measures b w NotATree refl q)
 
 -- a tree call is refused before its calls are made, with 11 to 19, whatever they are and whatever the buffer is; or it comes to what they write
 pub data Tested (s : Style) (w : Serializer) (text words : List ℕ) : Type 0 where
   fails : (k : ℕ) → k < 22 → ((b : List ℕ) (calls : Node → List Call) → writeTree s b w text words calls ≡ refuse k b w) → Tested s w text words
-  passes : (n : Node) → decide (length text) words ≡ some n → atomsHold text n ≡ true → isSound w ≡ true → isOver (w .phase) ≡ false
+  passes : (n : Node) → decide text words ≡ some n → atomsHold text n ≡ true → isSound w ≡ true → isOver (w .phase) ≡ false
       → ((b : List ℕ) (calls : Node → List Call) → writeTree s b w text words calls ≡ written s b w (calls n)) → Tested s w text words
 
 module _ (s : Style) (w : Serializer) (text words : List ℕ) where
-  node-tested : length text ≤ longest → isSound w ≡ true → (d : Option Node) → decide (length text) words ≡ d → Tested s w text words
+  node-tested : length text ≤ longest → isSound w ≡ true → (d : Option Node) → decide text words ≡ d → Tested s w text words
   unfolding writeTree writeNode
   node-tested short f none d = fails 15 (omega arith) (λ b calls. rw (le-ltb longest (length text) short, f, d))
   node-tested short f (some n) d =
@@ -122,7 +137,7 @@ module _ (s : Style) (w : Serializer) (text words : List ℕ) where
   tested =
       split (ltb longest (length text)) (λ e. fails 13 (omega arith) (λ b calls. rw e))
       (λ e.
-      split (isSound w) (λ f. node-tested (ltb-false longest (length text) e) f (decide (length text) words) refl)
+      split (isSound w) (λ f. node-tested (ltb-false longest (length text) e) f (decide text words) refl)
       (λ f. fails 11 (omega arith) (λ b calls. rw (e, f))))
 
 -- ---- the calls
@@ -203,7 +218,7 @@ module _ (s : Style) (b : List ℕ) (w : Serializer) where
     -- an answer says that all tests were passed, and that the calls fit and are made
     pub record Accepted : Type 0 where
       pub node : Node
-      pub decided : decide (length text) words ≡ some node
+      pub decided : decide text words ≡ some node
       pub atoms : atomsHold text node ≡ true
       pub sound : isSound w ≡ true
       pub fit : fits s (length b) w (calls node) ≡ true

@@ -21,10 +21,10 @@ use Rattle.sise_serializer.specs.declared.serializer.Serializer.{Serializer}
 use Rattle.sise_serializer.proofs.Sound.{sound, writing-lists}
 use Rattle.sise_serializer.specs.Calls.{largest, Call, putAtomCall, beginListCall, endListCall, finishCall, step}
 use Rattle.sise_serializer.proofs.Verdicts.{endOf, put, Puts, atomAlone, atomInside, listFirst, listInside, listClosed, textEnded}
-use Rattle.sise_tree.specs.Tree.{Node, atom, list, Nodes, empty, _then_}
+use Rattle.sise_tree.specs.Tree.{atomsHold, atomsHoldAll, Node, atom, list, Nodes, empty, _then_}
 use Rattle.sise_tree.specs.Decision.{decide}
 use Rattle.sise_tree.specs.Answers.{refusedWith}
-use Rattle.sise_tree_writer.specs.SerializeTree.{nodeCalls, rowCalls, treeCalls, atomsHold, atomsHoldAll, fits, Writes, refuse, written, isOver, writeTree, serializeTree}
+use Rattle.sise_tree_writer.specs.SerializeTree.{nodeCalls, rowCalls, treeCalls, fits, Writes, refuse, written, isOver, writeTree, serializeTree}
 use Rattle.sise_tree_writer.specs.Writing.{textCalls}
 use Rattle.sise_tree_writer.proofs.CallLaws.{checked-atom, fits-off}
 use Rattle.sise_tree_writer.proofs.Placing.{puts-sound, placed, not-placed, puts-place, put-fits}
@@ -172,7 +172,7 @@ module _ (s : Style) (room : ℕ) where
 
       -- inside a list
       node-takes : (n : Node) (a d : ℕ) (rest : List Call) → atomsHold text n ≡ true → 0 < d → Takes Writing d rest → Takes Writing d (nodeCalls text a t n ++ rest)
-      node-takes (atom p m) a d rest h o k = an-atom (partOf text p m) a (checked-atom text p m h) k
+      node-takes (atom w p m) a d rest h o k = an-atom (partOf text p m) a (checked-atom text p m h) k
       node-takes (list c) a d rest h o k =
           a-list t
           (rw (append-assoc (rowCalls text largest t c) (endListCall ∷ []) rest) (row-takes c largest (d + 1) (endListCall ∷ rest) h (omega arith) (inner-end o k)))
@@ -187,7 +187,7 @@ module _ (s : Style) (room : ℕ) where
     -- as the whole text
     whole-takes : (n : Node) (rest : List Call) → atomsHold text n ≡ true → Takes Finished 0 rest → Takes Beginning 0 (treeCalls text t n ++ rest)
     unfolding nodeCalls atomsHold
-    whole-takes (atom p m) rest h k = first-atom (partOf text p m) t (checked-atom text p m h) k
+    whole-takes (atom w p m) rest h k = first-atom (partOf text p m) t (checked-atom text p m h) k
     whole-takes (list c) rest h k =
         first-list t
         (rw (append-assoc (rowCalls text largest t c) (endListCall ∷ []) rest) (row-takes c largest 1 (endListCall ∷ rest) h (omega arith) (outer-end k)))
@@ -241,10 +241,10 @@ module _ (s : Style) (b : List ℕ) (w : Serializer) (text : List ℕ) (calls : 
       (λ f. o ∙ ap (λ (x : Bool). cond x none (some 22)) f)
 
   answer-22 : (words : List ℕ) → writeTree s b w text words calls .answer ≡ refusedWith 22
-      → (n : Node) × (decide (length text) words ≡ some n) × (firstRefusal s (length b) w (calls n) ≡ some 22)
+      → (n : Node) × (decide text words ≡ some n) × (firstRefusal s (length b) w (calls n) ≡ some 22)
   answer-22 words e = of (tested s w text words)
     where
-      of : Tested s w text words → (n : Node) × (decide (length text) words ≡ some n) × (firstRefusal s (length b) w (calls n) ≡ some 22)
+      of : Tested s w text words → (n : Node) × (decide text words ≡ some n) × (firstRefusal s (length b) w (calls n) ≡ some 22)
       of (fails k lt q) = let z = same-number (sym (ap (λ (x : Writes). x .answer) (q b calls)) ∙ e) in absurd (omega arith)
       of (passes n d a h v q) = (n, d, made-22 n (only n h v a) (sym (ap (λ (x : Writes). x .answer) (q b calls)) ∙ e))
 
@@ -254,12 +254,12 @@ text-begun text t wished n = let (c, cs, e) = tree-begun text t n in (c, cs ++ f
 
 -- serialize_tree answers 22 only if the first of the tree's calls that is refused is refused with 22
 pub tree-22 : (s : Style) (b : List ℕ) (w : Serializer) (text words : List ℕ) (t : ℕ) → serializeTree s b w text words t .answer ≡ refusedWith 22
-    → (n : Node) × (decide (length text) words ≡ some n) × (firstRefusal s (length b) w (treeCalls text t n) ≡ some 22)
+    → (n : Node) × (decide text words ≡ some n) × (firstRefusal s (length b) w (treeCalls text t n) ≡ some 22)
 unfolding serializeTree
 tree-22 s b w text words t = answer-22 s b w text (treeCalls text t) (tree-begun text t) (λ n. tree-refusal s (length b) w text t n) words
 
 -- and so does write_text
 pub text-22 : (s : Style) (b text words : List ℕ) (t : ℕ) (wished : Bool) → writeTree s b freshSerializer text words (textCalls text t wished) .answer ≡ refusedWith 22
-    → (n : Node) × (decide (length text) words ≡ some n) × (firstRefusal s (length b) freshSerializer (textCalls text t wished n) ≡ some 22)
+    → (n : Node) × (decide text words ≡ some n) × (firstRefusal s (length b) freshSerializer (textCalls text t wished n) ≡ some 22)
 text-22 s b text words t wished =
     answer-22 s b freshSerializer text (textCalls text t wished) (text-begun text t wished) (λ n h o g. text-refusal s (length b) text t wished n g) words

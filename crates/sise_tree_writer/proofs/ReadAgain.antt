@@ -26,7 +26,7 @@ use Rattle.sise_tree.specs.Descent.{ReadsNode, one, many, ReadsNodes, none, mor
 use Rattle.sise_tree_writer.specs.Alike.{Tree, leaf, branch, Trees, _also_, treeOf, treesOf, ReadsAs}
 use Rattle.sise_tree.proofs.TreeLaws.{anded}
 use Rattle.sise_tree.proofs.Descent.{descent-read}
-use Rattle.sise_tree.specs.Tree.{Node, atom, list, Nodes, empty, _then_}
+use Rattle.sise_tree.specs.Tree.{Node, atom, list, Nodes, empty, _then_, kindAt}
 use Rattle.sise_tree_writer.specs.SerializeTree.{nodeCalls, rowCalls, treeCalls, fits}
 
 -- the items of calls that are accepted
@@ -43,7 +43,7 @@ callItems (c ∷ cs) = callItem c ++ callItems cs
 unfoldable mutual
   -- a node's items
   nodeItems : List ℕ → Node → List Item
-  nodeItems text (atom p n) = Item·atom (partOf text p n) ∷ []
+  nodeItems text (atom k p n) = Item·atom (partOf text p n) ∷ []
   nodeItems text (list c) = listStart ∷ (rowItems text c ++ listEnd ∷ [])
 
   rowItems : List ℕ → Nodes → List Item
@@ -60,7 +60,7 @@ module _ (text : List ℕ) (t : ℕ) where
     unfolding callItem callItems nodeItems rowItems nodeCalls rowCalls
 
     node-items : (n : Node) (a : ℕ) → callItems (nodeCalls text a t n) ≡ nodeItems text n
-    node-items (atom p n) a = refl
+    node-items (atom k p n) a = refl
     node-items (list c) a =
         ap (λ (l : List Item). listStart ∷ l) (items-append (rowCalls text largest t c) (endListCall ∷ []) ∙ ap (λ (l : List Item). l ++ listEnd ∷ []) (row-items c largest))
 
@@ -149,13 +149,13 @@ module _ (text from : List ℕ) where
         items = tail-eq-of-cons-eq e;
       }
 
-  atom-spelt : {r : Reader} {p n : ℕ} {rest : List Item} → Took r (Item·atom (partOf from p n)) rest → Spelt r (atom p n) rest
+  atom-spelt : {r : Reader} {w p n : ℕ} {rest : List Item} → Took r (Item·atom (partOf from p n)) rest → Spelt r (atom w p n) rest
   unfolding asRead Stands treeOf
   atom-spelt {p} {n} t = record {
-    node = atom (t .offset) (length (partOf from p n));
+    node = atom (kindAt text (t .offset) (length (partOf from p n))) (t .offset) (length (partOf from p n));
     reader = t .reader;
     left = t .left;
-    reads = one (t .gives);
+    reads = one (t .gives) refl;
     same = ap leaf (part-stands text (partOf from p n) (t .offset) (t .stands));
     follow = t .follow;
     items = t .items;
@@ -190,7 +190,7 @@ module _ (text from : List ℕ) where
     unfolding nodeItems rowItems treesOf
 
     spelt : (n : Node) {r : Reader} {ps : List Placed} (rest : List Item) → Follows text r ps → itemsOf ps ≡ nodeItems from n ++ rest → Spelt r n rest
-    spelt (atom p k) rest t e = atom-spelt (took t e)
+    spelt (atom w p k) rest t e = atom-spelt (took t e)
     spelt (list c) rest t e =
         let d = took t (e ∙ ap (λ (l : List Item). listStart ∷ l) (append-assoc (rowItems from c) (listEnd ∷ []) rest)) in
         let a = spelt-all c (listEnd ∷ rest) (d .follow) (d .items) in

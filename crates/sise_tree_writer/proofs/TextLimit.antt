@@ -16,7 +16,7 @@ use Rattle.sise_tree_writer.specs.SerializeTree.{refuse, writeNode, writ
 -- serialize_tree, write_text and serialize_house, which differ in the calls
 module _ (s : Style) (buffer : List ℕ) (w : Serializer) (text words : List ℕ) (calls : Node → List Call) where
   pub write-at : length text ≡ 16777216
-      → writeTree s buffer w text words calls ≡ cond (isSound w) (writeNode s buffer w text calls (decide (length text) words)) (refuse 11 buffer w)
+      → writeTree s buffer w text words calls ≡ cond (isSound w) (writeNode s buffer w text calls (decide text words)) (refuse 11 buffer w)
   unfolding writeTree
   write-at at = rw (not-over text at)
 

@@ -12,8 +12,8 @@ use borrow.Author.Tests.{eqb-true, eqb-false, eq-eqb, ne-eqb, lt-ltb}
 use Rattle.sise_util.proofs.Ranges.{split}
 use Rattle.sise_parser.specs.Reader.{partOf}
 use Rattle.sise_serializer.specs.Calls.{largest, Call, putAtomCall, beginListCall, endListCall}
-use Rattle.sise_tree.specs.Tree.{Node, atom, list, Nodes, empty, _then_, size, sizes, tableAt, kind, first, second, span}
-use Rattle.sise_tree.proofs.TreeLaws.{size-pos, holds-words}
+use Rattle.sise_tree.specs.Tree.{Node, atom, list, Nodes, empty, _then_, size, sizes, tableAt, lies, kind, first, second, span}
+use Rattle.sise_tree.proofs.TreeLaws.{sits-kind, size-pos, holds-words}
 use Rattle.sise_tree.proofs.LocalLaws.{stands, Held}
 use Rattle.sise_tree.proofs.WalkLaws.{Around, Walk, walk-root, walk-atom, walk-list, walk-close, walk-ends, walk-within}
 use Rattle.sise_tree_writer.specs.SerializeTree.{nodeCalls, rowCalls, treeCalls}
@@ -27,10 +27,10 @@ unfoldable pub pending : List ℕ → ℕ → ℕ → Nodes → List Nodes → L
 pending text a t c [] = rowCalls text a t c ++ endListCall ∷ []
 pending text a t c (d ∷ o) = rowCalls text a t c ++ endListCall ∷ pending text t t d o
 
-pending-atom : (text : List ℕ) (a t p m : ℕ) (c : Nodes) (o : List Nodes) → pending text a t (atom p m then c) o ≡ putAtomCall (partOf text p m) a ∷ pending text t t c o
+pending-atom : (text : List ℕ) (a t k p m : ℕ) (c : Nodes) (o : List Nodes) → pending text a t (atom k p m then c) o ≡ putAtomCall (partOf text p m) a ∷ pending text t t c o
 unfolding pending rowCalls nodeCalls
-pending-atom text a t p m c [] = refl
-pending-atom text a t p m c (d ∷ o) = refl
+pending-atom text a t k p m c [] = refl
+pending-atom text a t k p m c (d ∷ o) = refl
 
 pending-list : (text : List ℕ) (a t : ℕ) (d c : Nodes) (o : List Nodes) → pending text a t (list d then c) o ≡ beginListCall t ∷ pending text largest t d (c ∷ o)
 unfolding pending rowCalls nodeCalls
@@ -41,7 +41,7 @@ pending-list text a t d c (b ∷ o) = simp append-assoc
 
 -- at node i, in the list `cur` that ends at node `end`, with the calls `rest` left: at the first node, inside it, or behind it
 pub data At (words text : List ℕ) (t i cur end : ℕ) (begins left : Bool) (rest : List Call) : Type 0 where
-  root : (n : Node) → Held (length text) words n → i ≡ 0 → cur ≡ 0 → end ≡ span words 0 → begins ≡ false → left ≡ true → rest ≡ treeCalls text t n
+  root : (n : Node) → Held text words n → i ≡ 0 → cur ≡ 0 → end ≡ span words 0 → begins ≡ false → left ≡ true → rest ≡ treeCalls text t n
       → At words text t i cur end begins left rest
   inside : (c : Nodes) (o : List Nodes) → Walk words cur i c o → end ≡ cur + span words cur → left ≡ true → rest ≡ pending text (cond begins largest t) t c o
       → At words text t i cur end begins left rest
@@ -82,21 +82,21 @@ module _ (words text : List ℕ) (t : ℕ) where
     as-list : closes ≡ false → kind words i ≡ 0 → isList ≡ true
     as-list k z = opens ∙ rw k (eq-eqb _ _ z)
 
-    as-atom : closes ≡ false → kind words i ≡ 1 → isList ≡ false
-    as-atom k z = opens ∙ rw k (ne-eqb (kind words i) 0 (λ (e : kind words i ≡ 0). omega (arith, z)))
+    as-atom : closes ≡ false → (kind words i ≡ 0 → ⊥) → isList ≡ false
+    as-atom k f = opens ∙ rw k (ne-eqb (kind words i) 0 f)
 
     -- ---- at the first node
 
     module _ (zi : i ≡ 0) (zl : cur ≡ 0) (ze : end ≡ span words 0) (zb : begins ≡ false) where
-      not-closing : {n : Node} → Held (length text) words n → closes ≡ false
+      not-closing : {n : Node} → Held text words n → closes ≡ false
       not-closing {n} h = ends ∙ ne-eqb i end (λ (e : i ≡ end). omega (arith, ze, h .spans, size-pos n))
 
-      root-turn : (n : Node) → Held (length text) words n → rest ≡ treeCalls text t n → Turn words text t i cur end begins rest closes isList
-      unfolding passed nodeCalls tableAt size pending
-      root-turn (atom p m) h q =
+      root-turn : (n : Node) → Held text words n → rest ≡ treeCalls text t n → Turn words text t i cur end begins rest closes isList
+      unfolding passed nodeCalls tableAt size pending lies
+      root-turn (atom w p m) h q =
           let k = not-closing h in
           let s = stands words 0 (holds-words (h .holds)) in
-          let l = as-atom k (rw zi (s .kinds)) in
+          let l = as-atom k (λ (z : kind words i ≡ 0). sits-kind text w p m (h .holds .inText) (sym (s .kinds) ∙ ap (kind words) (sym zi) ∙ z)) in
           record {
             more = [];
             due =
@@ -158,14 +158,14 @@ module _ (words text : List ℕ) (t : ℕ) where
       node-turn : (c : Nodes) (o : List Nodes) → Walk words cur i c o → rest ≡ pending text (cond begins largest t) t c o → closes ≡ false → Turn words text t i cur end begins rest closes isList
       unfolding passed sizes size
       node-turn empty o w q k = absurd (eqb-false i end (sym ends ∙ k) (omega (arith, ze, w .rest .stop)))
-      node-turn (atom p m then c) o w q k =
-          let s = walk-atom words p m c o w in
-          let l = as-atom k (s .kinds) in
-          let bounds = walk-within words (atom p m then c) o w in
+      node-turn (atom g p m then c) o w q k =
+          let s = walk-atom words g p m c o w in
+          let l = as-atom k (s .some) in
+          let bounds = walk-within words (atom g p m then c) o w in
           let later : ltb 0 i ≡ true = lt-ltb 0 i (omega (arith, bounds .0)) in
           record {
             more = pending text t t c o;
-            due = q ∙ pending-atom text (cond begins largest t) t p m c o ∙ ap (λ (x : Call). x ∷ pending text t t c o) (atom-due i begins closes isList k l (s .places) (s .lengths));
+            due = q ∙ pending-atom text (cond begins largest t) t g p m c o ∙ ap (λ (x : Call). x ∷ pending text t t c o) (atom-due i begins closes isList k l (s .places) (s .lengths));
             next = rw (k, l) (inside c o (s .next) ze later refl);
             passable = here k (omega (arith, w .rest .fit));
             within = λ _. omega (arith, bounds .1);

@@ -48,7 +48,7 @@ not-put put.NoRoom k = (22, refl)
 
 pub record Walking (s : Style) (text words : List ℕ) (t : ℕ) (writes : Bool) (room : ℕ) (b₀ : List ℕ) (w₀ : Serializer) (b : List ℕ) (w : Serializer) (i cur end : ℕ) (begins left : Bool) (o : ℕ) : Type 0 where
   pub tree : Node
-  pub decided : decide (length text) words ≡ some tree
+  pub decided : decide text words ≡ some tree
   pub checked : Checked text words
   pub sound : isSound w ≡ true
   pub rest : List Call
@@ -61,9 +61,9 @@ pub record Walking (s : Style) (text words : List ℕ) (t : ℕ) (writes : Bool)
 
 pub walking-start : (s : Style) (text words : List ℕ) (t : ℕ) (writes : Bool) (room : ℕ) (b : List ℕ) (w : Serializer) {end : ℕ} → end ≡ span words 0
     → Walkable w text words → (writes ≡ true → room ≡ length b)
-    → (writes ≡ true → (n : Node) → decide (length text) words ≡ some n → fits s room w (treeCalls text t n) ≡ true) → Walking s text words t writes room b w b w 0 0 end false true 0
+    → (writes ≡ true → (n : Node) → decide text words ≡ some n → fits s room w (treeCalls text t n) ≡ true) → Walking s text words t writes room b w b w 0 0 end false true 0
 walking-start s text words t writes room b w z k lent fit =
-    let (n, d, h) = held (length text) words (k .checked .holds) in
+    let (n, d, h) = held text words (k .checked .holds) in
     record {
       tree = n;
       decided = d;
@@ -84,7 +84,7 @@ module _ {s : Style} {text words : List ℕ} {t : ℕ} {writes : Bool} {room : �
   calls = treeCalls text t (h .tree)
 
   -- whatever the tree is called
-  the-tree : {n : Node} → decide (length text) words ≡ some n → h .tree ≡ n
+  the-tree : {n : Node} → decide text words ≡ some n → h .tree ≡ n
   the-tree d = Option·some-injective _ _ (sym (h .decided) ∙ d)
 
   module _ (more : left ≡ true) {closes isList : Bool} (ends : closes ≡ eqb i end) (opens : isList ≡ opensAt words i closes) where
@@ -196,7 +196,7 @@ module _ {s : Style} {text words : List ℕ} {t : ℕ} {writes : Bool} {room : �
   -- ---- the walk ends
 
   -- a call was refused
-  pub walk-off : fits s room w₀ calls ≡ false → {n : Node} → decide (length text) words ≡ some n → Finds s room w₀ (treeCalls text t n) Refused
+  pub walk-off : fits s room w₀ calls ≡ false → {n : Node} → decide text words ≡ some n → Finds s room w₀ (treeCalls text t n) Refused
   walk-off f d = off (rw (the-tree d) at f)
 
   -- nothing is left
@@ -217,11 +217,11 @@ module _ {s : Style} {text words : List ℕ} {t : ℕ} {writes : Bool} {room : �
     unfolding after
     ending = sym (ap (after s room w) over) ∙ h .same .last
 
-    pub walk-all : {n : Node} → decide (length text) words ≡ some n → Finds s room w₀ (treeCalls text t n) (Fits w o)
+    pub walk-all : {n : Node} → decide text words ≡ some n → Finds s room w₀ (treeCalls text t n) (Fits w o)
     walk-all d = rw (← the-tree d, ending) (all all-fit (h .offset (ended (h .at) .1)))
 
     -- written, where that is wished
-    module _ (y : writes ≡ true) {n : Node} (d : decide (length text) words ≡ some n) where
+    module _ (y : writes ≡ true) {n : Node} (d : decide text words ≡ some n) where
       pub walk-end : w .position ≡ after s (length b₀) w₀ (treeCalls text t n) .position
       walk-end = ap (λ (x : Serializer). x .position) (rw (the-tree d, h .same .lent y ∙ h .long) at ending)
 

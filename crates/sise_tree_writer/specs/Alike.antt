@@ -21,7 +21,7 @@ mutual
 unfoldable mutual
   -- a node over a text
   pub treeOf : List ℕ → Node → Tree
-  treeOf text (atom p n) = leaf (partOf text p n)
+  treeOf text (atom k p n) = leaf (partOf text p n)
   treeOf text (list c) = branch (treesOf text c)
 
   pub treesOf : List ℕ → Nodes → Trees

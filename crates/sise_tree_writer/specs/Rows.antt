@@ -4,6 +4,7 @@ use mathlib.Core.Path.{_≡_, refl}
 use mathlib.Core.List.{List, [], _∷_, _++_, map}
 use lib.ListN.{replicate}
 use Rattle.sise_util.specs.Chars.{isAtomChr, within}
+use Rattle.sise_util.specs.Atom.{isAtom, outside, hasQuote, kindOf, kindPrefix}
 use Rattle.sise_util.specs.Classes.{classOf}
 use Rattle.sise_parser.specs.Refusals.{Refusal, refusal}
 use Rattle.sise_parser.specs.Lexer.{wrong, between, comment, plain, string, escape}
@@ -11,7 +12,7 @@ use Rattle.sise_parser.specs.Reader.{freshReader, isSound, tokenAt, inBeginning
 use Rattle.sise_parser.specs.Examples.{rows1to10, rows-1-to-10}
 use Rattle.sise_serializer.specs.Serializer as writer
 use Rattle.sise_serializer.specs.Examples.{rows17to19, rows-17-to-19}
-use Rattle.sise_tree.specs.Tree.{size, tableAt}
+use Rattle.sise_tree.specs.Tree.{sits, size, tableAt}
 use Rattle.sise_tree.specs.Decision.{guard, bind, ahead, row, only, decide}
 use Rattle.sise_tree.specs.ParseTree.{attach, turn, readStage, readAnswer, readFrom, readNode, filledWith, parsed, parseTree}
 use Rattle.sise_tree.specs.IndexPath.{nodeAt, indexPath}
@@ -32,7 +33,7 @@ unfoldable pub row16 : Answer
 row16 = indexPath (parseTree (97 ∷ []) freshReader (replicate 4 9) .words) (97 ∷ []) (0 ∷ [])
 
 pub row-16 : row16 ≡ refusedWith 16
-unfolding row16 indexPath nodeAt decide row ahead only guard bind parseTree parsed readNode readFrom readAnswer readStage turn attach filledWith size tableAt nextItem nextIn isSound tokenAt inBeginning inParsing between comment plain string escape wrong classOf isAtomChr within
+unfolding row16 sits kindPrefix kindOf isAtom outside hasQuote indexPath nodeAt decide row ahead only guard bind parseTree parsed readNode readFrom readAnswer readStage turn attach filledWith size tableAt nextItem nextIn isSound tokenAt inBeginning inParsing between comment plain string escape wrong classOf isAtomChr within
 row-16 = refl
 
 unfoldable pub rows : List Refusal

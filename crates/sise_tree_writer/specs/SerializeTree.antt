@@ -6,8 +6,7 @@ use mathlib.Core.Bool.{Bool, true, false, _&&_, cond}
 use mathlib.Core.Option.{Option, none, some}
 use mathlib.Core.List.{List, [], _∷_, _++_}
 use lib.Dec.{ltb}
-use lib.ListN.{length, drop}
-use Rattle.sise_util.specs.Atom.{isAtomPrefix}
+use lib.ListN.{length}
 use Rattle.sise_parser.specs.Reader.{partOf}
 use Rattle.sise_serializer.specs.Serializer as writer
 use Rattle.sise_serializer.specs.Serializer.{Style, isSound}
@@ -15,7 +14,7 @@ use Rattle.sise_serializer.specs.declared.serializer.Phase.{Phase}
 use Rattle.sise_serializer.specs.declared.serializer.Phase.the-variants.{Beginning, Writing, Finished, Done}
 use Rattle.sise_serializer.specs.declared.serializer.Serializer.{Serializer}
 use Rattle.sise_serializer.specs.Calls.{largest, isAccepted, Call, putAtomCall, beginListCall, endListCall, step, run}
-use Rattle.sise_tree.specs.Tree.{Node, atom, list, Nodes, empty, _then_}
+use Rattle.sise_tree.specs.Tree.{Node, atom, list, Nodes, empty, _then_, atomsHold}
 use Rattle.sise_tree.specs.Decision.{decide}
 use Rattle.sise_tree.specs.ParseTree.{longest}
 use Rattle.sise_tree.specs.Answers.{Answer, answered, refused, refusedWith}
@@ -25,7 +24,7 @@ use Rattle.sise_tree_writer.specs.declared.serialize.TreeWrote.{TreeWrot
 unfoldable mutual
   -- a node's calls: an atom at the threshold a, "all else" at "the given one", t
   pub nodeCalls : List ℕ → ℕ → ℕ → Node → List Call
-  nodeCalls text a t (atom p n) = putAtomCall (partOf text p n) a ∷ []
+  nodeCalls text a t (atom k p n) = putAtomCall (partOf text p n) a ∷ []
   nodeCalls text a t (list c) = beginListCall t ∷ (rowCalls text largest t c ++ endListCall ∷ [])
 
   -- nodes one after the other: "gives a list's first child, if an atom, the largest threshold", so the first has a threshold of its own
@@ -36,16 +35,6 @@ unfoldable mutual
 -- a tree's calls
 abbrev pub treeCalls : List ℕ → ℕ → Node → List Call
 treeCalls text t n = nodeCalls text t t n
-
-unfoldable mutual
-  -- each atom is one: "the check of an atom is handed the rest of the text from its first byte, with the atom's length"
-  pub atomsHold : List ℕ → Node → Bool
-  atomsHold text (atom p n) = isAtomPrefix (drop p text) n
-  atomsHold text (list c) = atomsHoldAll text c
-
-  pub atomsHoldAll : List ℕ → Nodes → Bool
-  atomsHoldAll text empty = true
-  atomsHoldAll text (n then c) = atomsHold text n && atomsHoldAll text c
 
 -- none of the calls, one after the other, is refused: the whole has room
 unfoldable pub fits : Style → ℕ → Serializer → List Call → Bool
@@ -96,7 +85,7 @@ unfoldable pub writeTree : Style → List ℕ → Serializer → List ℕ → Li
 writeTree s buffer w text words calls =
     cond (ltb longest (length text))
     (refuse 13 buffer w)
-    (cond (isSound w) (writeNode s buffer w text calls (decide (length text) words)) (refuse 11 buffer w))
+    (cond (isSound w) (writeNode s buffer w text calls (decide text words)) (refuse 11 buffer w))
 
 unfoldable pub serializeTree : Style → List ℕ → Serializer → List ℕ → List ℕ → ℕ → Writes
 serializeTree s buffer w text words t = writeTree s buffer w text words (treeCalls text t)

@@ -75,14 +75,14 @@ pub record Walkable (w : Serializer) (text words : List ℕ) : Type 0 where
 
 -- what a walk that measures promises
 abbrev pub Walks : Style → ℕ → Serializer → List ℕ → List ℕ → ℕ → Walked → Type 0
-Walks s room w text words t r = (n : Node) → decide (length text) words ≡ some n → Finds s room w (treeCalls text t n) r
+Walks s room w text words t r = (n : Node) → decide text words ≡ some n → Finds s room w (treeCalls text t n) r
 
 -- a walk that writes asks for a buffer in which the calls fit, too
 pub record Writable (s : Style) (buffer : List ℕ) (w : Serializer) (text words : List ℕ) (t : ℕ) : Type 0 where
   pub walkable : Walkable w text words
-  pub fit : (n : Node) → decide (length text) words ≡ some n → fits s (length buffer) w (treeCalls text t n) ≡ true
+  pub fit : (n : Node) → decide text words ≡ some n → fits s (length buffer) w (treeCalls text t n) ≡ true
 
 -- it promises where the calls end, and what they leave in the buffer
 pub record WritesNodes (s : Style) (before : List ℕ) (w : Serializer) (text words : List ℕ) (t : ℕ) (r : ℕ) (now : List ℕ) : Type 0 where
-  pub end : (n : Node) → decide (length text) words ≡ some n → r ≡ after s (length before) w (treeCalls text t n) .position
-  pub buffer : (n : Node) → decide (length text) words ≡ some n → now ≡ run s before w (treeCalls text t n) .buffer
+  pub end : (n : Node) → decide text words ≡ some n → r ≡ after s (length before) w (treeCalls text t n) .position
+  pub buffer : (n : Node) → decide text words ≡ some n → now ≡ run s before w (treeCalls text t n) .buffer

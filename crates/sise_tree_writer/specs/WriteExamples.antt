@@ -7,7 +7,7 @@ use mathlib.Core.List.{List, [], _∷_, _++_}
 use lib.ListN.{take, replicate}
 use Rattle.sise_util.specs.Chars.{within, oneOf, isAtomChr, marks}
 use Rattle.sise_util.specs.Classes.{classOf}
-use Rattle.sise_util.specs.Atom.{isAtom, outside, inside, escaped, isAtomPrefix}
+use Rattle.sise_util.specs.Atom.{isAtom, outside, inside, escaped, hasQuote, isString, endsString, endsEscaped, kindOf, kindPrefix, isAtomPrefix}
 use Rattle.sise_parser.specs.Reader.{partOf}
 use Rattle.sise_parser.specs.Examples.{workedText as text}
 use Rattle.sise_serializer.specs.Bytes.{pasted}
@@ -15,11 +15,11 @@ use Rattle.sise_serializer.specs.Serializer.{freshSerializer, isSound, place, f
 use Rattle.sise_serializer.specs.declared.serializer.Phase.the-variants.{Writing}
 use Rattle.sise_serializer.specs.declared.serializer.Serializer.{Serializer}
 use Rattle.sise_serializer.specs.Calls.{largest, step, run}
-use Rattle.sise_tree.specs.Tree.{atom, list, empty, _then_, size, sizes, children, tableAt, table, tables}
+use Rattle.sise_tree.specs.Tree.{atom, list, empty, _then_, size, sizes, children, sits, atomsHold, atomsHoldAll, tableAt, table, tables}
 use Rattle.sise_tree.specs.Decision.{guard, bind, row, ahead, only, decide}
 use Rattle.sise_tree.specs.TableExamples.{worked as tree}
 use Rattle.sise_tree.specs.Answers.{Answer, answered, refusedWith}
-use Rattle.sise_tree_writer.specs.SerializeTree.{nodeCalls, rowCalls, atomsHold, atomsHoldAll, fits, Writes, written, writeNode, writeTree, serializeTree}
+use Rattle.sise_tree_writer.specs.SerializeTree.{nodeCalls, rowCalls, fits, Writes, written, writeNode, writeTree, serializeTree}
 use Rattle.sise_tree_writer.specs.Writing.{textCalls}
 use Rattle.sise_tree_writer.specs.House.{houseStyle, houseAt, house}
 
@@ -62,7 +62,7 @@ abbrev long : ℕ → List ℕ
 long n = lead n ++ 32 ∷ 98 ∷ 32 ∷ 99 ∷ 41 ∷ []
 
 abbrev longTable : ℕ → List ℕ
-longTable n = table (list (atom 1 n then atom (n + 2) 1 then atom (n + 4) 1 then empty))
+longTable n = table (list (atom 1 1 n then atom 1 (n + 2) 1 then atom 1 (n + 4) 1 then empty))
 
 record Written : Type 0 where
   -- at the largest threshold the text is the one that it was read from
@@ -83,7 +83,7 @@ record Written : Type 0 where
   at72 : shown (house (used 81) (long 71) (longTable 71)) ≡ record { text = lead 71 ++ 10 ∷ 32 ∷ 32 ∷ 98 ∷ 32 ∷ 99 ∷ 10 ∷ 41 ∷ 10 ∷ []; answer = answered 0 }
 
 written-so : Written
-unfolding text shown serializeTree houseAt houseStyle textCalls writeTree writeNode written fits nodeCalls rowCalls atomsHold atomsHoldAll isAtomPrefix partOf decide row ahead only guard bind size sizes children tableAt tables run step pasted freshSerializer isSound place firstAtom firstList laid innerAs inner phaseAfter closeAs close last putIn putAtom beginIn beginList endIn endList finishIn finishWriting isAtom outside inside escaped classOf isAtomChr marks oneOf within
+unfolding text shown serializeTree houseAt houseStyle textCalls writeTree writeNode written fits nodeCalls rowCalls atomsHold atomsHoldAll isAtomPrefix sits kindPrefix kindOf hasQuote isString endsString endsEscaped partOf decide row ahead only guard bind size sizes children tableAt tables run step pasted freshSerializer isSound place firstAtom firstList laid innerAs inner phaseAfter closeAs close last putIn putAtom beginIn beginList endIn endList finishIn finishWriting isAtom outside inside escaped classOf isAtomChr marks oneOf within
 written-so = record { unbroken = refl; atZero = refl; inHouse = refl; atomInHouse = refl; at71 = refl; at72 = refl }
 
 record Refusals : Type 0 where
@@ -102,5 +102,5 @@ record Refusals : Type 0 where
   isFinished : serializeTree houseStyle [] finished text (1 ∷ 1 ∷ 1 ∷ 1 ∷ []) 0 .answer ≡ refusedWith 19
 
 refusals : Refusals
-unfolding text shown deep finished serializeTree houseAt houseStyle textCalls writeTree writeNode written fits nodeCalls rowCalls atomsHold atomsHoldAll isAtomPrefix partOf decide row ahead only guard bind size sizes children tableAt tables run step pasted freshSerializer isSound place firstAtom firstList laid innerAs inner phaseAfter closeAs close last putIn putAtom beginIn beginList endIn endList finishIn finishWriting isAtom outside inside escaped classOf isAtomChr marks oneOf within
+unfolding text shown deep finished serializeTree houseAt houseStyle textCalls writeTree writeNode written fits nodeCalls rowCalls atomsHold atomsHoldAll isAtomPrefix sits kindPrefix kindOf hasQuote isString endsString endsEscaped partOf decide row ahead only guard bind size sizes children tableAt tables run step pasted freshSerializer isSound place firstAtom firstList laid innerAs inner phaseAfter closeAs close last putIn putAtom beginIn beginList endIn endList finishIn finishWriting isAtom outside inside escaped classOf isAtomChr marks oneOf within
 refusals = record { oneByteShort = refl; zeroLength = refl; deeper = refl; deepest = refl; noTree = refl; zeroLengthFinished = refl; isFinished = refl }

@@ -1,19 +1,17 @@
 -- A whole text written, and what the private functions of the tree's writing do.
 -- Assumes nothing.
-use Prim.Native.Nat.{ℕ, _+_, _*_, _≤_}
+use Prim.Native.Nat.{ℕ}
 use mathlib.Core.Path.{_≡_}
-use mathlib.Core.Bool.{Bool, true, cond}
+use mathlib.Core.Bool.{Bool, true}
 use mathlib.Core.Option.{some}
 use mathlib.Core.List.{List, [], _∷_, _++_}
-use lib.Dec.{eqb}
-use lib.ListN.{length, drop}
-use Rattle.sise_util.specs.Atom.{isAtomPrefix}
+use lib.ListN.{length}
 use Rattle.sise_serializer.specs.Serializer.{Style, freshSerializer}
 use Rattle.sise_serializer.specs.declared.serializer.Serializer.{Serializer}
 use Rattle.sise_serializer.specs.Calls.{Call, finishCall}
-use Rattle.sise_tree.specs.Tree.{Node, kind, first, second}
+use Rattle.sise_tree.specs.Tree.{Node, atomsHold}
 use Rattle.sise_tree.specs.Decision.{decide, isSome}
-use Rattle.sise_tree_writer.specs.SerializeTree.{treeCalls, atomsHold, Writes, writeNode, writeTree, serializeTree, DoesMeasure}
+use Rattle.sise_tree_writer.specs.SerializeTree.{treeCalls, Writes, writeNode, writeTree, serializeTree, DoesMeasure}
 use Rattle.sise_tree_writer.specs.declared.serialize.TreeWrote.{TreeWrote}
 
 -- a tree's calls, and a finish, with a line break if wished
@@ -24,24 +22,15 @@ textCalls text t wished n = treeCalls text t n ++ finishCall wished ∷ []
 abbrev pub writeText : Style → List ℕ → List ℕ → List ℕ → ℕ → Bool → Writes
 writeText s buffer text words t wished = writeTree s buffer freshSerializer text words (textCalls text t wished)
 
--- node i is in the table, and if an atom, in the text
-pub record InTable (text words : List ℕ) (i : ℕ) : Type 0 where
-  pub there : 4 * (i + 1) ≤ length words
-  pub inText : kind words i ≡ 1 → first words i + second words i ≤ length text
-
--- node i, if an atom, is one
-unfoldable pub atomHoldsAt : List ℕ → List ℕ → ℕ → Bool
-atomHoldsAt text words i = cond (eqb (kind words i) 1) (isAtomPrefix (drop (first words i) text) (second words i)) true
-
 -- the table holds a tree, whose atoms were checked
 pub record Checked (text words : List ℕ) : Type 0 where
-  pub holds : isSome (decide (length text) words) ≡ true
-  pub atoms : (n : Node) → decide (length text) words ≡ some n → atomsHold text n ≡ true
+  pub holds : isSome (decide text words) ≡ true
+  pub atoms : (n : Node) → decide text words ≡ some n → atomsHold text n ≡ true
 
 -- what measuring a tree promises in a buffer of room bytes: record and answer, once the table is known to hold the node d
 abbrev pub MeasuresNode : Style → ℕ → Serializer → List ℕ → List ℕ → ℕ → TreeWrote → Type 0
 MeasuresNode s room w text words t r =
-    (b : List ℕ) → length b ≡ room → DoesMeasure (writeNode s b w text (treeCalls text t) (decide (length text) words)) r
+    (b : List ℕ) → length b ≡ room → DoesMeasure (writeNode s b w text (treeCalls text t) (decide text words)) r
 
 -- and from its first check on
 abbrev pub MeasuresTree : Style → ℕ → Serializer → List ℕ → List ℕ → ℕ → TreeWrote → Type 0

@@ -5,24 +5,16 @@ use crate::measure::measure_nodes;
 use crate::write::write_nodes;
 use sise_serializer::Phase;
 use sise_serializer::Serializer;
+use sise_tree::Held;
 use sise_tree::LONGEST;
 use sise_tree::holds_tree;
-use sise_tree::wide;
-use sise_util::check_atom_prefix;
-use sise_util::is_plain;
 ghost use mathlib.Core.Path.{_≡_};
 ghost use mathlib.Core.Bool.{true, false};
-ghost use mathlib.Core.Option.{some};
-ghost use mathlib.Core.List.{List};
-ghost use Prim.Native.Nat.{ℕ};
-ghost use lib.ListN.{length};
 ghost use Rattle.sise_serializer.specs.Serializer.{style, isSound};
-ghost use Rattle.sise_tree.specs.Tree.{Node};
-ghost use Rattle.sise_tree.specs.Decision.{decide, isSome};
 ghost use Rattle.sise_tree.specs.Answers.{numberOf};
-ghost use Rattle.sise_tree_writer.specs.Answers.{putAs};
-ghost use Rattle.sise_tree_writer.specs.SerializeTree.{atomsHold, isOver, serializeTree, DoesWrite};
-ghost use Rattle.sise_tree_writer.specs.Writing.{InTable, atomHoldsAt, Checked, MeasuresNode, MeasuresTree};
+ghost use Rattle.sise_tree_writer.specs.Answers.{putAs, refusalOf};
+ghost use Rattle.sise_tree_writer.specs.SerializeTree.{isOver, serializeTree, DoesWrite};
+ghost use Rattle.sise_tree_writer.specs.Writing.{Checked, MeasuresNode, MeasuresTree};
 
 // What serialize_tree answers: the offset of the first item, or a refusal.
 pub enum PutTree {
@@ -70,36 +62,15 @@ fn is_over(phase: Phase) -> bool
     }
 }
 
-// Whether node `i`, if an atom, is one.
-fn atom_holds(text: &[u8], table: &[u32], i: usize) -> bool
-    requires { ⌜ InTable (now text) (now table) i ⌝ }
-    ensures { λ r. ⌜ r ≡ atomHoldsAt (now (text .entry)) (now (table .entry)) i ⌝ }
+// The refusal of what a table holds that is no tree of atoms.
+fn refusal_of(held: Held) -> PutTree
+    ensures { λ r. ⌜ r ≡ refusalOf held ⌝ }
 {
-    if table[4 * i] != 1 {
-        return true;
+    match held {
+        Held::Tree => PutTree::NotATree,
+        Held::NoAtom => PutTree::InvalidAtom,
+        Held::NotATree => PutTree::NotATree,
     }
-    let place = wide(table[4 * i + 1]);
-    let len = wide(table[4 * i + 2]);
-    if is_plain(&text[place..place + len]) {
-        return true;
-    }
-    check_atom_prefix(&text[place..], len)
-}
-
-// Whether each atom of the tree is one.
-fn atoms_hold(text: &[u8], table: &[u32]) -> bool
-    requires { ⌜ isSome (decide (length (now text)) (now table)) ≡ true ⌝ }
-    ensures { λ r. ⌜ ((n : Node) → decide (length (now (text .entry))) (now (table .entry)) ≡ some n → r ≡ atomsHold (now (text .entry)) n) ⌝ }
-{
-    let end = wide(table[3]);
-    let mut i = 0;
-    while i < end {
-        if !atom_holds(text, table, i) {
-            return false;
-        }
-        i += 1;
-    }
-    true
 }
 
 // A refusal leaves the record.
@@ -160,12 +131,10 @@ pub(crate) fn measure_tree(
     if !serializer.is_sound() {
         return refused(serializer, PutTree::UnsoundRecord);
     }
-    if !holds_tree(text.len(), table) {
-        return refused(serializer, PutTree::NotATree);
-    }
-    if !atoms_hold(text, table) {
-        return refused(serializer, PutTree::InvalidAtom);
-    }
+    let held = holds_tree(text, table);
+    let Held::Tree = held else {
+        return refused(serializer, refusal_of(held));
+    };
     let phase = serializer.phase;
     if is_over(phase) {
         return refused(serializer, PutTree::WritingFinished);

@@ -94,7 +94,7 @@ escaped-one b l = escaped-cons b l ∙ by (eqb b 34) (eqb b 92) (isStringChr b) 
 -- every atom passes
 
 -- b is not n, at which the test f says no
-not-at : (f : ℕ → Bool) (n b : ℕ) → f n ≡ false → f b ≡ true → eqb b n ≡ false
+pub not-at : (f : ℕ → Bool) (n b : ℕ) → f n ≡ false → f b ≡ true → eqb b n ≡ false
 not-at f n b refused h = split (eqb b n) (λ e. absurd (false≢true (sym refused ∙ ap f (sym (eqb-true b n e)) ∙ h))) (λ e. e)
 
 string-step : (b : ℕ) (l : List ℕ) → isStringChr b ≡ true → inside (b ∷ l) ≡ inside l

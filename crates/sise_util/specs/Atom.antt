@@ -2,12 +2,14 @@
 -- Assumes nothing.
 use Prim.Native.Nat.{ℕ}
 use mathlib.Core.Path.{_≡_}
-use mathlib.Core.Bool.{Bool, true, false, _&&_}
+use mathlib.Core.Bool.{Bool, true, false, _&&_, _||_, cond}
 use mathlib.Core.List.{List, [], _∷_, _++_}
-use lib.Dec.{leb}
+use lib.Dec.{leb, eqb}
 use lib.ListN.{length, take}
 use Rattle.sise_util.specs.Chars.{isAtomChr, isStringChr, isEscapedChr}
 use Rattle.sise_util.specs.Classes.{space, quote, tab, atomChr, lineEnd, backslash, other, semicolon, left, right, printable, classOf}
+use Rattle.sise_util.specs.declared.util.AtomKind.{AtomKind}
+use Rattle.sise_util.specs.declared.util.AtomKind.the-variants.{Plain, String, Mixed, No}
 
 -- what stands between the two " of a string: string characters, or \ followed by a string character, " or \
 pub data Inside : List ℕ → Type 0 where
@@ -92,6 +94,48 @@ unfoldable pub isPlain : List ℕ → Bool
 isPlain [] = false
 isPlain (b ∷ l) = allAtomChrs (b ∷ l)
 
--- the check of tree calls: the first n bytes of the rest of a text; "a length past that part is 17"
+-- ---- which atom (document 02, 2.3: "The check of an atom answers plain (no `"`), one whole string, mixed (any other atom), or no")
+
+-- a `"` among the bytes
+unfoldable pub hasQuote : List ℕ → Bool
+hasQuote [] = false
+hasQuote (b ∷ l) = eqb b 34 || hasQuote l
+
+-- behind a `"`: the next `"` that no `\` stands before is the last byte
+unfoldable mutual
+  pub endsString : List ℕ → Bool
+  endsString [] = false
+  endsString (b ∷ l) = cond (eqb b 34) (eqb (length l) 0) (cond (eqb b 92) (endsEscaped l) (endsString l))
+
+  pub endsEscaped : List ℕ → Bool
+  endsEscaped [] = false
+  endsEscaped (b ∷ l) = endsString l
+
+unfoldable pub isString : List ℕ → Bool
+isString [] = false
+isString (b ∷ l) = eqb b 34 && endsString l
+
+unfoldable pub kindOf : List ℕ → AtomKind
+kindOf a = cond (isAtom a) (cond (hasQuote a) (cond (isString a) String Mixed) Plain) No
+
+-- "Tables hold 1, 2 or 3 (plain, string, mixed) as an atom's first word"
+abbrev pub kindNumber : AtomKind → ℕ
+kindNumber Plain = 1
+kindNumber String = 2
+kindNumber Mixed = 3
+kindNumber No = 0
+
+-- "Putting an atom needs only whether it is no"
+abbrev pub isKind : AtomKind → Bool
+isKind Plain = true
+isKind String = true
+isKind Mixed = true
+isKind No = false
+
+-- ---- the check of tree calls: the first n bytes of the rest of a text; "a length past that part is 17"
+
+unfoldable pub kindPrefix : List ℕ → ℕ → AtomKind
+kindPrefix rest n = cond (leb n (length rest)) (kindOf (take n rest)) No
+
 unfoldable pub isAtomPrefix : List ℕ → ℕ → Bool
 isAtomPrefix rest n = leb n (length rest) && isAtom (take n rest)

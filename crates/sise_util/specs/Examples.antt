@@ -6,8 +6,9 @@ use mathlib.Core.Bool.{true, false}
 use mathlib.Core.List.{[], _∷_, map}
 use Rattle.sise_util.specs.Chars.{within}
 use Rattle.sise_util.specs.Classes.{classOf}
-use Rattle.sise_util.specs.Atom.{outside, inside, escaped, isAtom}
+use Rattle.sise_util.specs.Atom.{outside, inside, escaped, isAtom, hasQuote, endsString, endsEscaped, isString, kindOf}
 use Rattle.sise_util.specs.Utf8.{forms, follow, byRows, character}
+use Rattle.sise_util.specs.declared.util.AtomKind.the-variants.{Plain, String, Mixed, No}
 use Rattle.sise_util.specs.declared.utf8.Character.the-variants.{Well, Ill}
 
 -- a  ""  "a b"  a"b"c  "\""  "\\"
@@ -37,6 +38,21 @@ no-atoms : map isAtom (
     []) ≡ false ∷ false ∷ false ∷ false ∷ false ∷ false ∷ false ∷ false ∷ false ∷ false ∷ []
 unfolding isAtom outside inside escaped classOf
 no-atoms = refl
+
+-- a  ""  "a b"  "a""b"  a"b"  "\""  "a"b  "  "a"\
+kinds : map kindOf (
+    (0x61 ∷ []) ∷
+    (0x22 ∷ 0x22 ∷ []) ∷
+    (0x22 ∷ 0x61 ∷ 0x20 ∷ 0x62 ∷ 0x22 ∷ []) ∷
+    (0x22 ∷ 0x61 ∷ 0x22 ∷ 0x22 ∷ 0x62 ∷ 0x22 ∷ []) ∷
+    (0x61 ∷ 0x22 ∷ 0x62 ∷ 0x22 ∷ []) ∷
+    (0x22 ∷ 0x5C ∷ 0x22 ∷ 0x22 ∷ []) ∷
+    (0x22 ∷ 0x61 ∷ 0x22 ∷ 0x62 ∷ []) ∷
+    (0x22 ∷ []) ∷
+    (0x22 ∷ 0x61 ∷ 0x22 ∷ 0x5C ∷ []) ∷
+    []) ≡ Plain ∷ String ∷ String ∷ Mixed ∷ Mixed ∷ String ∷ Mixed ∷ No ∷ No ∷ []
+unfolding kindOf isAtom outside inside escaped hasQuote isString endsString endsEscaped classOf
+kinds = refl
 
 -- section 7: at each of their characters, the rest of the four examples
 -- A, not identical to, Alpha, full stop

@@ -6,6 +6,7 @@ mod util;
 
 pub use utf8::Character;
 pub use utf8::character_at;
+pub use util::AtomKind;
 pub use util::check_atom;
 pub use util::check_atom_prefix;
 pub use util::is_atom_byte;

@@ -2,9 +2,49 @@
 ghost use mathlib.Core.Path.{_≡_};
 ghost use Rattle.sise_util.specs.Chars.{oneOf, marks, isAtomChr, isStringChr, isEscapedChr};
 ghost use Prim.Native.Nat.{_<_};
-ghost use lib.ListN.{drop};
-ghost use Rattle.sise_util.specs.Atom.{inside, isAtom, isPlain, isAtomPrefix};
+ghost use mathlib.Core.Bool.{_&&_};
+ghost use lib.Dec.{eqb};
+ghost use lib.ListN.{length, drop};
+ghost use Rattle.sise_util.specs.Atom.{inside, isPlain, endsString, kindOf, kindNumber, isKind, kindPrefix};
 ghost use Rattle.sise_util.specs.Parts.{afterString, maskOf};
+
+// What the check of an atom answers.
+pub enum AtomKind {
+    // No `"` in it.
+    Plain,
+    // One whole string.
+    String,
+    // Any other atom.
+    Mixed,
+    // No atom.
+    No,
+}
+
+impl AtomKind {
+    // The first word of such an atom in a table: 1, 2 or 3; 0 for no atom.
+    pub fn number(self) -> u32
+        ensures { λ r. ⌜ r ≡ kindNumber self ⌝ }
+    {
+        match self {
+            AtomKind::Plain => 1,
+            AtomKind::String => 2,
+            AtomKind::Mixed => 3,
+            AtomKind::No => 0,
+        }
+    }
+
+    // Whether it is an atom at all.
+    pub fn is_atom(self) -> bool
+        ensures { λ r. ⌜ r ≡ isKind self ⌝ }
+    {
+        match self {
+            AtomKind::Plain => true,
+            AtomKind::String => true,
+            AtomKind::Mixed => true,
+            AtomKind::No => false,
+        }
+    }
+}
 
 // Whether `chr` is an atom character that is no letter and no digit.
 fn is_mark(chr: u8) -> bool
@@ -98,6 +138,7 @@ fn is_escaped_chr(chr: u8) -> bool
 fn string_end(atom: &[u8], from: usize) -> usize
     ensures same { λ r. ⌜ afterString (now (atom .entry)) r ≡ inside (drop from (now (atom .entry))) ⌝ }
     ensures on { λ r. ⌜ ((r ≡ 0 → ⊥) → from < r) ⌝ }
+    ensures whole { λ r. ⌜ ((r ≡ 0 → ⊥) → endsString (drop from (now (atom .entry))) ≡ eqb r (length (now (atom .entry)))) ⌝ }
 {
     let mut at = from;
     while at < atom.len() {
@@ -133,37 +174,57 @@ pub fn is_plain(atom: &[u8]) -> bool
     at != 0
 }
 
-// Whether `atom` is an atom: one or more atom characters and strings.
-pub fn check_atom(atom: &[u8]) -> bool
-    ensures { λ r. ⌜ r ≡ isAtom (now (atom .entry)) ⌝ }
+// Which atom `atom` is: one or more atom characters and strings, or no atom.
+pub fn check_atom(atom: &[u8]) -> AtomKind
+    ensures { λ r. ⌜ r ≡ kindOf (now (atom .entry)) ⌝ }
 {
     if atom.len() == 0 {
-        return false;
+        return AtomKind::No;
     }
     let mut at = 0;
+    let mut quoted = false;
     while at < atom.len() {
         let chr = atom[at];
         if is_atom_chr(chr) {
             at += 1;
         } else {
             if chr != b'"' {
-                return false;
+                return AtomKind::No;
             }
-            at = string_end(atom, at + 1);
-            if at == 0 {
-                return false;
+            let end = string_end(atom, at + 1);
+            if end == 0 {
+                return AtomKind::No;
             }
+            if is_whole(at, end, atom.len()) {
+                return AtomKind::String;
+            }
+            at = end;
+            quoted = true;
         }
     }
-    true
+    if quoted {
+        AtomKind::Mixed
+    } else {
+        AtomKind::Plain
+    }
 }
 
-// Whether the first `len` bytes of `rest`, a text from an atom's first byte on, are an atom; a length past its end is none.
-pub fn check_atom_prefix(rest: &[u8], len: usize) -> bool
-    ensures { λ r. ⌜ r ≡ isAtomPrefix (now (rest .entry)) len ⌝ }
+// Whether a string from `at` to `end` is all of `len` bytes.
+fn is_whole(at: usize, end: usize, len: usize) -> bool
+    ensures { λ r. ⌜ r ≡ (eqb at 0 && eqb end len) ⌝ }
+{
+    if at != 0 {
+        return false;
+    }
+    end == len
+}
+
+// Which atom the first `len` bytes of `rest` are, a text from an atom's first byte on; a length past its end is none.
+pub fn check_atom_prefix(rest: &[u8], len: usize) -> AtomKind
+    ensures { λ r. ⌜ r ≡ kindPrefix (now (rest .entry)) len ⌝ }
 {
     if rest.len() < len {
-        return false;
+        return AtomKind::No;
     }
     check_atom(&rest[..len])
 }

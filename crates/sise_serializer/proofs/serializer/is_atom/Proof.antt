@@ -1,7 +1,9 @@
--- A plain atom is an atom; else the test of the library decides.
+-- Atom characters alone are an atom; of all else the check says whether it is one.
 -- Assumes nothing.
-use mathlib.Core.Path.{sym, _∙_}
+use mathlib.Core.Path.{sym, ap, _∙_}
+use Rattle.sise_util.specs.Atom.{isKind}
 use Rattle.sise_util.proofs.AtomLaws.{plain-atom}
+use Rattle.sise_util.proofs.KindLaws.{kind-atom}
 use borrow.Author.Needs.{needs}
 use Rattle.sise_serializer.proofs.serializer.is_atom.Statement.{statement}
 use Rattle.sise_serializer.proofs.serializer.is_atom.Tie as tie
@@ -13,4 +15,5 @@ is-atom-spec =
     (λ c κs. search needs)  -- is-plain-requires
     (λ c. sym (plain-atom _ (sym (c .before .is-plain .ensures) ∙ c .if1 .taken)))  -- returns
     (λ c κs. search needs)  -- check-atom-requires
-    (λ c. search needs))  -- returns-2
+    (λ c κs. search needs)  -- is-atom-requires
+    (λ c. c .is-atom .ensures ∙ ap isKind (c .before .check-atom .ensures) ∙ kind-atom _))  -- returns-2

@@ -56,7 +56,7 @@ fill-plain-requires c κs =
     let (n, q, k) = w .before .before .before .before .pre in
     let h = w .before .loop .inv .2 in
     let e = called (w .item-ahead .result) (w .item-ahead .ensures) (v .renewed .ensures) (p .before .before .before .answer .given .1) in
-    let (g, s) = fill-goes _ _ _ k h e (p .put-item .ensures _ _ (h .shows) (item-fits _ _ _ k h e)) (i .if1 .left) (p .put-item .kept .0) in
+    let (g, s) = fill-goes _ _ _ k h e (p .put-item .ensures _ _ (h .shows) (item-fits _ _ _ k h e)) (i .if1 .left) (p .put-item .kept .1 .0) in
     (_, _, n, q, _, g, filling-at _ _ _ k s (i .if1 .left))
 
 loop-less : tie.Need-loop-less Inv-loop μ-loop
@@ -68,7 +68,7 @@ loop-less c =
     let (n, q, k) = w .before .before .before .before .pre in
     let h = w .before .loop .inv .2 in
     let e = called (w .item-ahead .result) (w .item-ahead .ensures) (v .renewed .ensures) (p .before .before .before .answer .given .1) in
-    let (g, s) = fill-goes _ _ _ k h e (p .put-item .ensures _ _ (h .shows) (item-fits _ _ _ k h e)) (i .if1 .left) (p .put-item .kept .0) in
+    let (g, s) = fill-goes _ _ _ k h e (p .put-item .ensures _ _ (h .shows) (item-fits _ _ _ k h e)) (i .if1 .left) (p .put-item .kept .1 .0) in
     let t = took _ _ e in
     omega (arith, t .moves, t .within, c .before .before .before .before .fill-plain .ensures .1)
 
@@ -81,7 +81,7 @@ loop-again c =
     let (n, q, k) = w .before .before .before .before .pre in
     let h = w .before .loop .inv .2 in
     let e = called (w .item-ahead .result) (w .item-ahead .ensures) (v .renewed .ensures) (p .before .before .before .answer .given .1) in
-    let (g, s) = fill-goes _ _ _ k h e (p .put-item .ensures _ _ (h .shows) (item-fits _ _ _ k h e)) (i .if1 .left) (p .put-item .kept .0) in
+    let (g, s) = fill-goes _ _ _ k h e (p .put-item .ensures _ _ (h .shows) (item-fits _ _ _ k h e)) (i .if1 .left) (p .put-item .kept .1 .0) in
     let (f, a) = c .before .before .before .before .fill-plain .ensures .0 _ _ n q _ g (filling-at _ _ _ k s (i .if1 .left)) in
     (f, _, a .fills)
 
@@ -100,7 +100,7 @@ fill-nodes-spec =
     returns
     put-item-requires
     -- same-length-2
-    (λ c. let p = c .before .before .before .before .before in p .put-item .kept .0 ∙ p .before .before .before .before .before .before .before .before .loop .inv .2 .same)
+    (λ c. let p = c .before .before .before .before .before in p .put-item .kept .1 .0 ∙ p .before .before .before .before .before .before .before .before .loop .inv .2 .same)
     returns-2
     -- the node's lists
     (λ c.
@@ -111,7 +111,7 @@ fill-nodes-spec =
     let (n, q, k) = w .before .before .before .before .pre in
     let h = w .before .loop .inv .2 in
     let e = called (w .item-ahead .result) (w .item-ahead .ensures) (v .renewed .ensures) (p .before .before .before .answer .given .1) in
-    let (g, s) = fill-goes _ _ _ k h e (p .put-item .ensures _ _ (h .shows) (item-fits _ _ _ k h e)) (i .if1 .left) (p .put-item .kept .0) in
+    let (g, s) = fill-goes _ _ _ k h e (p .put-item .ensures _ _ (h .shows) (item-fits _ _ _ k h e)) (i .if1 .left) (p .put-item .kept .1 .0) in
     omega (arith, s .stands .listed))
     fill-plain-requires
     -- the reader's lists
@@ -123,7 +123,7 @@ fill-nodes-spec =
     let (n, q, k) = w .before .before .before .before .pre in
     let h = w .before .loop .inv .2 in
     let e = called (w .item-ahead .result) (w .item-ahead .ensures) (v .renewed .ensures) (p .before .before .before .answer .given .1) in
-    let (g, s) = fill-goes _ _ _ k h e (p .put-item .ensures _ _ (h .shows) (item-fits _ _ _ k h e)) (i .if1 .left) (p .put-item .kept .0) in
+    let (g, s) = fill-goes _ _ _ k h e (p .put-item .ensures _ _ (h .shows) (item-fits _ _ _ k h e)) (i .if1 .left) (p .put-item .kept .1 .0) in
     let (f, a) = c .before .before .before .before .fill-plain .ensures .0 _ _ n q _ g (filling-at _ _ _ k s (i .if1 .left)) in
     ⊎-elim (λ z. omega arith) (λ z. omega arith) (lists-within _ _ (a .fills .stands)))
     loop-less

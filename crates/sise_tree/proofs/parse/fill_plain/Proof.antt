@@ -13,6 +13,7 @@ use Rattle.sise_tree.specs.Filling.{FillsOn}
 use Rattle.sise_tree.specs.declared.parse.Filled.{Filled}
 use Rattle.sise_tree.proofs.ParseSteps.{depth-within}
 use Rattle.sise_tree.proofs.FillingTurns.{atom-room, start-room, end-closable, end-turns}
+use Rattle.sise_tree.proofs.PlainKinds.{plain-kind}
 use Rattle.sise_tree.proofs.FillingPlain.{filled, start-fits, start-on, end-fits, end-on, atom-fits, atom-on}
 use Rattle.sise_tree.proofs.parse.fill_plain.Statement.{statement}
 use Rattle.sise_tree.proofs.parse.fill_plain.Tie as tie
@@ -39,7 +40,7 @@ put-start-requires c κs =
     let (w₀, r₀, n, q, h, f, a₀) = k .before .before .before .before .pre in
     let (g, a) = k .before .loop .inv .on w₀ r₀ n q h f a₀ in
     let t = k .skip-blanks .ensures .1 .1 ∙ between-open _ _ (c .before .before .before .if1 .left) (c .before .if2 .taken) in
-    (_, _, (w₀, g, a .fills .shows, start-fits _ w₀ r₀ a t))
+    (_, _, _, (w₀, g, a .fills .shows, start-fits _ w₀ r₀ a t))
 
 add-depth : tie.Need-add-depth Inv-loop μ-loop
 add-depth c =
@@ -69,7 +70,7 @@ loop-again c =
       after = omega (arith, v .after, k .skip-blanks .ensures .1 .0);
       on = λ w₀ r₀ n q h f a₀.
           let (g, a) = v .on w₀ r₀ n q h f a₀ in
-          start-on _ w₀ r₀ a t (p .put-start .ensures _ _ w₀ g (a .fills .shows) (start-fits _ w₀ r₀ a t)) (p .put-start .kept .0);
+          start-on _ w₀ r₀ a t (p .put-start .ensures _ _ _ w₀ g (a .fills .shows) (start-fits _ w₀ r₀ a t)) (p .put-start .kept .0);
     }
 
 close-list-requires : tie.Need-close-list-requires Inv-loop μ-loop
@@ -111,7 +112,7 @@ put-atom-requires c κs =
     let (g, a) = k .before .loop .inv .on w₀ r₀ n q h f a₀ in
     let l = later (run .atom-run .ensures .1 .0) (c .before .before .before .if5 .left) in
     let t = k .skip-blanks .ensures .1 .1 ∙ run .atom-run .ensures .1 .1 l (eqb-false _ 34 (sym (c .before .before .is-quote-at .ensures) ∙ c .before .if6 .left)) in
-    (w₀, g, a .fills .shows, atom-fits _ w₀ r₀ a t)
+    (_, plain-kind _ _ (run .atom-run .ensures .0) l, (w₀, g, a .fills .shows, atom-fits _ w₀ r₀ a t))
 
 add-next-2 : tie.Need-add-next-2 Inv-loop μ-loop
 add-next-2 c =
@@ -137,7 +138,7 @@ loop-again-3 c =
       after = omega (arith, v .after, k .skip-blanks .ensures .1 .0);
       on = λ w₀ r₀ n q h f a₀.
           let (g, a) = v .on w₀ r₀ n q h f a₀ in
-          atom-on _ w₀ r₀ a t (p .put-atom .ensures w₀ g (a .fills .shows) (atom-fits _ w₀ r₀ a t)) (p .put-atom .kept .0);
+          atom-on _ w₀ r₀ a t (p .put-atom .ensures _ (plain-kind _ _ (run .atom-run .ensures .0) l) w₀ g (a .fills .shows) (atom-fits _ w₀ r₀ a t)) (p .put-atom .kept .0);
     }
 
 pub fill-plain-spec : {M : Type 1} → statement M

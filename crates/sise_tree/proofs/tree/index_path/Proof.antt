@@ -3,8 +3,8 @@
 use Prim.Native.Nat.{_-_}
 use mathlib.Core.Path.{sym, _∙_}
 use lib.ListN.{length}
-use borrow.Author.Tests.{not-true, not-false}
 use borrow.Author.Needs.{needs}
+use Rattle.sise_tree.proofs.HeldLaws.{not-none, some-held, none-held}
 use Rattle.sise_tree.proofs.PathLaws.{At, too-long, no-tree, at-root, at-none, at-more, at-child, at-end}
 use Rattle.sise_tree.proofs.tree.index_path.Statement.{statement}
 use Rattle.sise_tree.proofs.tree.index_path.Tie as tie
@@ -21,11 +21,14 @@ returns c = sym (too-long _ _ _ (c .if1 .taken))
 holds-tree-requires : tie.Need-holds-tree-requires Inv-loop μ-loop
 holds-tree-requires c κs = search needs
 
+enum-told : tie.Need-enum-told Inv-loop μ-loop
+enum-told c = search needs
+
 returns-2 : tie.Need-returns-2 Inv-loop μ-loop
-returns-2 c = sym (no-tree _ _ _ (c .before .before .if1 .left) (sym (c .before .holds-tree .ensures) ∙ not-true _ (c .if2 .taken)))
+returns-2 c = let h = c .before .before in sym (no-tree _ _ _ (h .before .if1 .left) (none-held _ _ (h .holds-tree .ensures) (c .enum-told .given .1)))
 
 loop-holds : tie.Need-loop-holds Inv-loop μ-loop
-loop-holds c = at-root _ _ _ (c .before .before .if1 .left) (sym (c .before .holds-tree .ensures) ∙ not-false _ (c .if2 .left))
+loop-holds c = let h = c .before in at-root _ _ _ (h .before .if1 .left) (some-held _ _ (h .holds-tree .ensures) (not-none _ (c .match .keys2)))
 
 mul-index : tie.Need-mul-index Inv-loop μ-loop
 mul-index c = search needs
@@ -33,19 +36,19 @@ mul-index c = search needs
 shared-slice-read-index : tie.Need-shared-slice-read-index Inv-loop μ-loop
 shared-slice-read-index c = search needs
 
-mul-if3 : tie.Need-mul-if3 Inv-loop μ-loop
-mul-if3 c = search needs
+mul-if2 : tie.Need-mul-if2 Inv-loop μ-loop
+mul-if2 c = search needs
 
-mul-if3-2 : tie.Need-mul-if3-2 Inv-loop μ-loop
-mul-if3-2 c = search needs
+mul-if2-2 : tie.Need-mul-if2-2 Inv-loop μ-loop
+mul-if2-2 c = search needs
 
-shared-slice-read-if3 : tie.Need-shared-slice-read-if3 Inv-loop μ-loop
-shared-slice-read-if3 c = search needs
+shared-slice-read-if2 : tie.Need-shared-slice-read-if2 Inv-loop μ-loop
+shared-slice-read-if2 c = search needs
 
 returns-3 : tie.Need-returns-3 Inv-loop μ-loop
 returns-3 c =
     let test = c .before .before .before in
-    sym (at-none (test .before .loop .inv) (test .loop-test .taken) (λ z. absurd (c .if3 .taken z)))
+    sym (at-none (test .before .loop .inv) (test .loop-test .taken) (λ z. absurd (c .if2 .taken z)))
 
 word-requires : tie.Need-word-requires Inv-loop μ-loop
 word-requires c κs = search needs
@@ -53,7 +56,7 @@ word-requires c κs = search needs
 returns-4 : tie.Need-returns-4 Inv-loop μ-loop
 returns-4 c =
     let test = c .before .before .before .before .before in
-    sym (at-none (test .before .loop .inv) (test .loop-test .taken) (λ z. rw (← c .before .word .ensures .0) (c .if4 .taken)))
+    sym (at-none (test .before .loop .inv) (test .loop-test .taken) (λ z. rw (← c .before .word .ensures .0) (c .if3 .taken)))
 
 add-child : tie.Need-add-child Inv-loop μ-loop
 add-child c = search needs
@@ -61,7 +64,7 @@ add-child c = search needs
 child-requires : tie.Need-child-requires Inv-loop μ-loop
 child-requires c κs =
     let test = c .before .before .before .before .before in
-    at-more (test .before .loop .inv) (test .loop-test .taken) (c .before .before .if3 .left) (c .before .word .ensures .0) (c .if4 .left)
+    at-more (test .before .loop .inv) (test .loop-test .taken) (c .before .before .if2 .left) (c .before .word .ensures .0) (c .if3 .left)
 
 add-k : tie.Need-add-k Inv-loop μ-loop
 add-k c = search needs
@@ -73,7 +76,7 @@ loop-again : tie.Need-loop-again Inv-loop μ-loop
 loop-again c =
     let read = c .before .before in
     let test = read .before .before .before .before in
-    let next = at-child (test .before .loop .inv) (test .loop-test .taken) (read .before .if3 .left) (read .word .ensures .0) (c .before .if4 .left) in
+    let next = at-child (test .before .loop .inv) (test .loop-test .taken) (read .before .if2 .left) (read .word .ensures .0) (c .before .if3 .left) in
     rw (c .child .ensures) next
 
 returns-5 : tie.Need-returns-5 Inv-loop μ-loop
@@ -87,13 +90,14 @@ index-path-spec =
     μ-loop
     returns
     holds-tree-requires
+    enum-told
     returns-2
     loop-holds
     mul-index
     shared-slice-read-index
-    mul-if3
-    mul-if3-2
-    shared-slice-read-if3
+    mul-if2
+    mul-if2-2
+    shared-slice-read-if2
     returns-3
     word-requires
     returns-4

@@ -2,22 +2,22 @@
 -- Assumes nothing.
 use mathlib.Core.Path.{_≡_, sym, _∙_}
 use mathlib.Core.List.{List}
-use mathlib.Core.Bool.{false}
 use Prim.Native.Nat.{ℕ, _≤_, _<_}
 use lib.ListN.{length, take}
 use lib.Seq.{length-take-le}
 use borrow.Author.Needs.{needs}
 use borrow.Author.Tests.{le-leb, lt-leb}
-use Rattle.sise_util.specs.Atom.{isAtom, isAtomPrefix}
+use Rattle.sise_util.specs.Atom.{kindOf, kindPrefix}
+use Rattle.sise_util.specs.declared.util.AtomKind.the-variants.{No}
 use Rattle.sise_util.proofs.util.check_atom_prefix.Statement.{statement}
 use Rattle.sise_util.proofs.util.check_atom_prefix.Tie as tie
 
-past-end : (rest : List ℕ) (n : ℕ) → length rest < n → false ≡ isAtomPrefix rest n
-unfolding isAtomPrefix
+past-end : (rest : List ℕ) (n : ℕ) → length rest < n → No ≡ kindPrefix rest n
+unfolding kindPrefix
 past-end rest n h = sym (rw (lt-leb n (length rest) h))
 
-inside : (rest : List ℕ) (n : ℕ) → n ≤ length rest → isAtom (take n rest) ≡ isAtomPrefix rest n
-unfolding isAtomPrefix
+inside : (rest : List ℕ) (n : ℕ) → n ≤ length rest → kindOf (take n rest) ≡ kindPrefix rest n
+unfolding kindPrefix
 inside rest n h = sym (rw (le-leb n (length rest) h))
 
 pub check-atom-prefix-spec : {M : Type 1} → statement M
