@@ -156,22 +156,25 @@ module _ {s : Style} {text words : List ℕ} {t : ℕ} {writes : Bool} {room : �
 
             pub turn-on : let p = passed words i cur end closes isList in (x : ℕ) × Walking s text words t writes room b₀ w₀ now v (p .i) (p .list) (p .end) (p .begins) (p .left) x
             unfolding firstAnswer
-            turn-on = (cond (eqb i 0) at o, record {
-              tree = h .tree;
-              decided = h .decided;
-              checked = h .checked;
-              sound = ap isSound does ∙ sound-kept s room w call (h .sound);
-              rest = made .more;
-              at = made .next;
-              same = later;
-              fit = h .fit;
-              long = split writes (λ y. sym (later .lent y) ∙ h .same .lent y) (λ y. ap length (rw y at wrote)) ∙ h .long;
-              begun = λ z. absurd (let started = made .started in omega (arith, z));
-              offset = λ l.
-                  split (eqb i 0)
-                  (λ y. sym (h .begun (eqb-true i 0 y)) ∙ ap (firstAnswer s room w) due ∙ accepted ∙ rw y)
-                  (λ y. h .offset (let other = eqb-false i 0 y in omega arith) ∙ rw y);
-            })
+            turn-on = (
+              cond (eqb i 0) at o,
+              record {
+                tree = h .tree;
+                decided = h .decided;
+                checked = h .checked;
+                sound = ap isSound does ∙ sound-kept s room w call (h .sound);
+                rest = made .more;
+                at = made .next;
+                same = later;
+                fit = h .fit;
+                long = split writes (λ y. sym (later .lent y) ∙ h .same .lent y) (λ y. ap length (rw y at wrote)) ∙ h .long;
+                begun = λ z. absurd (let started = made .started in omega (arith, z));
+                offset = λ l.
+                    split (eqb i 0)
+                    (λ y. sym (h .begun (eqb-true i 0 y)) ∙ ap (firstAnswer s room w) due ∙ accepted ∙ rw y)
+                    (λ y. h .offset (let other = eqb-false i 0 y in omega arith) ∙ rw y);
+              },
+            )
 
         -- a call that was made as written
         module _ (y : writes ≡ true) {v : Serializer} {now : List ℕ} (k : Makes call s w b v now) where

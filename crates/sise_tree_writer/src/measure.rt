@@ -40,7 +40,14 @@ fn first_offset(
         return position;
     }
     if break_line_at <= w.line_len as u64 {
-        match find_spot(position, room, line_break.len(), w.lists, indentation.len(), 0) {
+        match find_spot(
+            position,
+            room,
+            line_break.len(),
+            w.lists,
+            indentation.len(),
+            0,
+        ) {
             Spot::At(at, _) => return at,
             Spot::NoRoom => return position,
         }
