@@ -6,7 +6,7 @@ use sise_util::classes::ClassTable;
 ghost use mathlib.Core.Path.{_≡_};
 ghost use lib.ListN.{drop};
 ghost use Rattle.sise_util.specs.Chars.{isAtomChr, isStringChr};
-ghost use Rattle.sise_util.specs.Atom.{isPlain, kindOf, kindPrefix, kindNumber, isKind};
+ghost use Rattle.sise_util.specs.Atom.{kindOf, kindPrefix, kindNumber, isKind};
 ghost use Rattle.sise_util.specs.Classes.{classOf, classNumber, classTable};
 ghost use Rattle.sise_util.specs.Utf8.{character};
 
@@ -31,13 +31,6 @@ pub fn is_atom_byte(byte: u8) -> bool
     ensures { λ r. ⌜ r ≡ isAtomChr byte ⌝ }
 {
     sise_util::is_atom_byte(byte)
-}
-
-// Whether `atom` is one or more atom characters and nothing else.
-pub fn is_plain(atom: &[u8]) -> bool
-    ensures { λ r. ⌜ r ≡ isPlain (now (atom .entry)) ⌝ }
-{
-    sise_util::is_plain(atom)
 }
 
 // Which atom `atom` is.

@@ -3,6 +3,7 @@ use crate::error::ParseError;
 use crate::lexer::Lexed;
 use crate::lexer::Token;
 use crate::lexer::get_token;
+use crate::lexer::skip_blanks;
 ghost use mathlib.Core.Path.{_≡_};
 ghost use Prim.Native.Nat.{_≤_, _<_, _^_};
 ghost use Rattle.sise_parser.specs.Reader.{freshReader, listsFit, isSound, inBeginning, inParsing, nextItem, finishReading, partOf, next, reader};
@@ -233,7 +234,8 @@ pub fn atom_bytes(text: &[u8], place: usize, len: usize) -> &[u8]
     &text[place..place + len]
 }
 
-// The next item of the text for a record of these parts, which are handed over one by one since that is faster than a struct.
+// The next item of the text for a record of these parts, which are handed over one by one since that is faster than a struct. Blanks are passed by a loop
+// of their own: in get_token each would go through the match on a token's first byte.
 pub fn item_ahead(position: usize, phase: Phase, lists: usize, text: &[u8]) -> Next
     ensures { λ r. ⌜ nextAs r ≡ nextItem (now (text .entry)) (reader position phase lists) ⌝ }
 {
@@ -248,7 +250,7 @@ pub fn item_ahead(position: usize, phase: Phase, lists: usize, text: &[u8]) -> N
     if let Phase::Finishing = phase {
         return refused(position, phase, lists, ParseError::ParsingFinished);
     }
-    match get_token(text, position) {
+    match get_token(text, skip_blanks(text, position)) {
         Lexed::Refused(wrong) => {
             let error = wrong.error;
             refused(wrong.position, phase, lists, error)

@@ -10,7 +10,6 @@ use crate::buffer::write_break;
 use crate::buffer::write_gap;
 use crate::buffer::write_line;
 use sise_util::check_atom;
-use sise_util::is_plain;
 ghost use mathlib.Core.Path.{_≡_};
 ghost use mathlib.Core.Bool.{true, false, cond};
 ghost use mathlib.Core.List.{[], _∷_};
@@ -266,13 +265,10 @@ fn spaces_before(list_beginning: bool) -> usize
 
 // ---- put_atom
 
-// Most atoms are plain, and that is the faster test.
+// "Putting an atom needs only whether it is no."
 fn is_atom(atom: &[u8]) -> bool
     ensures { λ r. ⌜ r ≡ isAtom (now (atom .entry)) ⌝ }
 {
-    if is_plain(atom) {
-        return true;
-    }
     let kind = check_atom(atom);
     kind.is_atom()
 }

@@ -7,13 +7,13 @@ use mathlib.Core.Bool.{Bool, true, false, _&&_, false≢true}
 use mathlib.Core.List.{List, [], _∷_}
 use lib.Dec.{eqb, leb}
 use lib.ListN.{length, take, drop}
+use lib.Seq.{length-take-le}
 use borrow.Author.Tests.{le-leb}
 use Rattle.sise_util.specs.Chars.{isAtomChr}
-use Rattle.sise_util.specs.Atom.{allAtomChrs, isPlain, isAtom, hasQuote, kindOf, kindNumber, kindPrefix}
+use Rattle.sise_util.specs.Atom.{allAtomChrs, kindOf, kindNumber, kindPrefix}
 use Rattle.sise_util.specs.declared.util.AtomKind.{AtomKind}
-use Rattle.sise_util.proofs.Ranges.{split, both, and-first, and-second}
-use Rattle.sise_util.proofs.AtomLaws.{not-at, plain-atom}
-use Rattle.sise_util.proofs.KindLaws.{kind-plain}
+use Rattle.sise_util.proofs.Ranges.{split, both}
+use Rattle.sise_util.proofs.PlainRuns.{all-plain}
 use Rattle.sise_parser.specs.Plain.{atomRun}
 use Rattle.sise_tree.specs.Tree.{kindAt}
 
@@ -36,20 +36,10 @@ unfolding atomRun
 ran [] p = ran-none [] p
 ran (b ∷ l) p = split (isAtomChr b) (λ y. rw (y, atomRun) (ran-one b l p (atomRun l (p + 1)) y (ran l (p + 1)))) (λ n. rw (n, atomRun) (ran-none (b ∷ l) p))
 
-no-quote : (l : List ℕ) → allAtomChrs l ≡ true → hasQuote l ≡ false
-unfolding hasQuote
-no-quote [] h = refl
-no-quote (b ∷ l) h = rw (not-at isAtomChr 34 b (unfold isAtomChr in refl) (and-first (isAtomChr b) _ h)) (no-quote l (and-second (isAtomChr b) _ h))
-
-some-plain : (l : List ℕ) (n : ℕ) → 0 < n → n ≤ length l → allAtomChrs (take n l) ≡ true → isPlain (take n l) ≡ true
-unfolding isPlain
-some-plain [] n z w h = absurd (omega arith)
-some-plain (b ∷ l) n z w h = let k : n ≡ suc (n - 1) = omega arith in rw k (rw k at h)
-
 pub plain-kind : (text : List ℕ) (s : ℕ) {q : ℕ} → q ≡ atomRun (drop s text) s → s < q → 1 ≡ kindAt text s (q - s)
 unfolding kindPrefix
 plain-kind text s {q} e l =
     let h = rw (← e) at (ran (drop s text) s) in
     let a = take (q - s) (drop s text) in
     rw (le-leb (q - s) (length (drop s text)) (h .within))
-    (ap kindNumber (kind-plain a (plain-atom a (some-plain (drop s text) (q - s) (omega arith) (h .within) (h .chrs))) (no-quote a (h .chrs))))
+    (ap kindNumber (all-plain a (λ z. omega (arith, z, length-take-le (q - s) (drop s text) (h .within))) (h .chrs)))

@@ -1,5 +1,6 @@
 pub mod Planned
 pub mod Made
+pub mod Starting
 pub mod CallLaws
 pub mod Atoms
 pub mod Turns

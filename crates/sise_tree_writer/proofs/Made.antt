@@ -38,6 +38,11 @@ made-of s room w c r (puts p q f) e = record { piece = p; its = q; is = refl; wi
 pub made : (s : Style) (room : ℕ) (w : Serializer) (c : Call) {o : ℕ} → step s room w c .answer ≡ writer.Answer.accepted o → Made s room w c (step s room w c)
 made s room w c e = made-of s room w c (step s room w c) (verdict s room w c) e
 
+-- its offset is behind the piece's layout
+pub made-offset : (s : Style) (room : ℕ) (w : Serializer) (c : Call) {o : ℕ} (e : step s room w c .answer ≡ writer.Answer.accepted o)
+    → o ≡ w .position + length (made s room w c e .piece .layout)
+made-offset s room w c e = let q = sym e ∙ ap (λ (x : Written). x .answer) (made s room w c e .is) in cc
+
 module _ {c : Call} {s : Style} {w : Serializer} {before : List ℕ} (can : CanMake c s w before) where
   abbrev pub itself : Made s (length before) w c (step s (length before) w c)
   itself = made s (length before) w c (can .accepts)

@@ -29,11 +29,12 @@ use Rattle.sise_tree.specs.Decision.{decide}
 use Rattle.sise_tree.proofs.LocalLaws.{held}
 use Rattle.sise_tree_writer.specs.SerializeTree.{treeCalls, fits}
 use Rattle.sise_tree_writer.specs.Writing.{Checked}
-use Rattle.sise_tree_writer.specs.Planning.{Plans, CanMake, Makes, itemCall, turnCall}
+use Rattle.sise_tree_writer.specs.Planning.{Plans, CanMake, Makes, itemCall, turnCall, Starts}
 use Rattle.sise_tree_writer.specs.Walking.{opensAt, atomAt, AtomIn, Passable, passed, after, firstAnswer, Finds, all, off, Walkable}
 use Rattle.sise_tree_writer.specs.declared.measure.Walked.the-variants.{Fits, Refused}
 use Rattle.sise_tree_writer.proofs.Atoms.{atom-in, atom-good}
 use Rattle.sise_tree_writer.proofs.CallLaws.{fits-first, fits-off, lists-after, accepted-lists, closed-list, writtenIf, Same, same-start, same-on}
+use Rattle.sise_tree_writer.proofs.Starting.{tree-starts}
 use Rattle.sise_tree_writer.proofs.Turns.{At, root, inside, behind, Turn, turn}
 
 -- an answer that is no offset
@@ -153,25 +154,27 @@ module _ {s : Style} {text words : List ℕ} {t : ℕ} {writes : Bool} {room : �
             later : Same s writes room b₀ w₀ calls now v (made .more)
             later = same-on (rw due at (h .same)) does wrote accepted
 
-            pub turn-on : {x : ℕ} → x ≡ cond (eqb i 0) at o
-                → let p = passed words i cur end closes isList in Walking s text words t writes room b₀ w₀ now v (p .i) (p .list) (p .end) (p .begins) (p .left) x
+            pub turn-on : let p = passed words i cur end closes isList in (x : ℕ) × Walking s text words t writes room b₀ w₀ now v (p .i) (p .list) (p .end) (p .begins) (p .left) x
             unfolding firstAnswer
-            turn-on {x} q = record {
-              tree = h .tree;
-              decided = h .decided;
-              checked = h .checked;
-              sound = ap isSound does ∙ sound-kept s room w call (h .sound);
-              rest = made .more;
-              at = made .next;
-              same = later;
-              fit = h .fit;
-              long = split writes (λ y. sym (later .lent y) ∙ h .same .lent y) (λ y. ap length (rw y at wrote)) ∙ h .long;
-              begun = λ z. absurd (let started = made .started in omega (arith, z));
-              offset = λ l.
-                  split (eqb i 0)
-                  (λ y. sym (h .begun (eqb-true i 0 y)) ∙ ap (firstAnswer s room w) due ∙ accepted ∙ ap writer.Answer.accepted (sym (rw y at q)))
-                  (λ y. h .offset (let other = eqb-false i 0 y in omega arith) ∙ ap writer.Answer.accepted (sym (rw y at q)));
-            }
+            turn-on = (
+              cond (eqb i 0) at o,
+              record {
+                tree = h .tree;
+                decided = h .decided;
+                checked = h .checked;
+                sound = ap isSound does ∙ sound-kept s room w call (h .sound);
+                rest = made .more;
+                at = made .next;
+                same = later;
+                fit = h .fit;
+                long = split writes (λ y. sym (later .lent y) ∙ h .same .lent y) (λ y. ap length (rw y at wrote)) ∙ h .long;
+                begun = λ z. absurd (let started = made .started in omega (arith, z));
+                offset = λ l.
+                    split (eqb i 0)
+                    (λ y. sym (h .begun (eqb-true i 0 y)) ∙ ap (firstAnswer s room w) due ∙ accepted ∙ rw y)
+                    (λ y. h .offset (let other = eqb-false i 0 y in omega arith) ∙ rw y);
+              },
+            )
 
         -- a call that was made as written
         module _ (y : writes ≡ true) {v : Serializer} {now : List ℕ} (k : Makes call s w b v now) where
@@ -191,7 +194,7 @@ module _ {s : Style} {text words : List ℕ} {t : ℕ} {writes : Bool} {room : �
           made-less z = turn-less made-does made-accepted z
 
           pub made-on : let p = passed words i cur end closes isList in (x : ℕ) × Walking s text words t writes room b₀ w₀ now v (p .i) (p .list) (p .end) (p .begins) (p .left) x
-          made-on = (cond (eqb i 0) (turn-can y .offset) o, turn-on made-does made-accepted made-wrote refl)
+          made-on = turn-on made-does made-accepted made-wrote
 
   -- ---- the walk ends
 
@@ -217,8 +220,10 @@ module _ {s : Style} {text words : List ℕ} {t : ℕ} {writes : Bool} {room : �
     unfolding after
     ending = sym (ap (after s room w) over) ∙ h .same .last
 
-    pub walk-all : {n : Node} → decide text words ≡ some n → Finds s room w₀ (treeCalls text t n) (Fits w o)
-    walk-all d = rw (← the-tree d, ending) (all all-fit (h .offset (ended (h .at) .1)))
+    pub walk-all : {r : ℕ} → Starts s room w₀ t r → {n : Node} → decide text words ≡ some n → Finds s room w₀ (treeCalls text t n) (Fits w r)
+    walk-all starts d =
+        let first = h .offset (ended (h .at) .1) in
+        rw (← the-tree d, ending) (all all-fit (first ∙ ap writer.Answer.accepted (sym (tree-starts s room w₀ text t (h .tree) first starts))))
 
     -- written, where that is wished
     module _ (y : writes ≡ true) {n : Node} (d : decide text words ≡ some n) where

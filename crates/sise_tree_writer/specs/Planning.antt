@@ -86,3 +86,7 @@ pub record CanMake (c : Call) (s : Style) (w : Serializer) (buffer : List ℕ) :
 pub record Makes (c : Call) (s : Style) (w : Serializer) (before : List ℕ) (r : Serializer) (now : List ℕ) : Type 0 where
   pub serializer : r ≡ step s (length before) w c .serializer
   pub buffer : now ≡ pasted before (w .position) (step s (length before) w c .bytes)
+
+-- an item at the threshold t that is accepted behind the record w, in a buffer of room bytes, has the offset r
+abbrev pub Starts : Style → ℕ → Serializer → ℕ → ℕ → Type 0
+Starts s room w t r = (a : List ℕ) (isList : Bool) (o : ℕ) → step s room w (itemCall a isList t) .answer ≡ Answer.accepted o → r ≡ o

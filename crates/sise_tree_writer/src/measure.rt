@@ -1,17 +1,20 @@
 // What the calls of a tree come to in a buffer of so many bytes, with no byte written.
 use crate::plan::plan_turn;
 use crate::plan::remade;
+use crate::plan::spaces_before;
 use crate::walk::atom_of;
 use crate::walk::opens_list;
 use crate::walk::pass;
 use crate::walk::threshold;
+use sise_serializer::Phase;
 use sise_serializer::Put;
 use sise_serializer::Serializer;
+use sise_serializer::Spot;
+use sise_serializer::find_spot;
 use sise_tree::wide;
-ghost use mathlib.Core.Path.{_≡_};
-ghost use mathlib.Core.Bool.{cond};
-ghost use lib.Dec.{eqb};
 ghost use Rattle.sise_serializer.specs.Serializer.{style};
+ghost use Rattle.sise_serializer.specs.Parts.{Small};
+ghost use Rattle.sise_tree_writer.specs.Planning.{Starts};
 ghost use Rattle.sise_tree_writer.specs.Walking.{Walkable, Walks};
 
 // What a walk comes to: all calls fit, with the record behind them and the first one's offset; or one does not.
@@ -20,11 +23,36 @@ pub enum Walked {
     Refused,
 }
 
-// The offset that a walk answers: its first call's, which is node 0's.
-fn first_offset(i: usize, at: usize, offset: usize) -> usize
-    ensures { λ r. ⌜ r ≡ cond (eqb i 0) at offset ⌝ }
+// The offset that a walk answers: its first call's, an item's at the given threshold, if that is accepted in a buffer of `room` bytes.
+fn first_offset(
+    w: Serializer,
+    line_break: &[u8],
+    indentation: &[u8],
+    room: usize,
+    break_line_at: u64,
+) -> usize
+    requires { ⌜ Small w ⌝ }
+    ensures { λ r. ⌜ Starts (style (now («line_break» .entry)) (now (indentation .entry))) room w «break_line_at» r ⌝ }
 {
-    if i == 0 { at } else { offset }
+    let position = w.position;
+    let phase = w.phase;
+    if let Phase::Beginning = phase {
+        return position;
+    }
+    if break_line_at <= w.line_len as u64 {
+        match find_spot(
+            position,
+            room,
+            line_break.len(),
+            w.lists,
+            indentation.len(),
+            0,
+        ) {
+            Spot::At(at, _) => return at,
+            Spot::NoRoom => return position,
+        }
+    }
+    position + spaces_before(w.list_beginning)
 }
 
 // Plans the tree's calls in a buffer of `room` bytes, up to the first that does not fit.
@@ -46,7 +74,6 @@ pub(crate) fn measure_nodes(
     let mut end = wide(table[3]);
     let mut begins = false;
     let mut left = true;
-    let mut offset = 0;
     while left {
         let closes = i == end;
         let is_list = opens_list(table, i, closes);
@@ -63,11 +90,10 @@ pub(crate) fn measure_nodes(
             line,
         );
         let answer = planned.answer;
-        let Put::At(at) = answer else {
+        let Put::At(_) = answer else {
             return Walked::Refused;
         };
         let place = pass(table, i, list, end, closes, is_list);
-        offset = first_offset(i, at, offset);
         w = planned.serializer;
         i = place.i;
         list = place.list;
@@ -75,5 +101,6 @@ pub(crate) fn measure_nodes(
         begins = place.begins;
         left = place.left;
     }
+    let offset = first_offset(serializer, line_break, indentation, room, break_line_at);
     Walked::Fits(w, offset)
 }

@@ -4,14 +4,14 @@ use mathlib.Core.Path.{_≡_, refl, sym, ap, _∙_, subst}
 use mathlib.Core.Bool.{Bool, true, false, cond, _||_, false≢true}
 use mathlib.Core.Logic.{_⊎_, inl, inr, ⊎-elim, _↔_}
 use mathlib.Core.List.{List, [], _∷_, _++_, append-assoc, append-nil}
-use Prim.Native.Nat.{ℕ, _≤_}
+use Prim.Native.Nat.{ℕ, zero, suc, _≤_}
 use native.Mathlib.Omega.{arith}
-use lib.ListN.{length, length-append}
+use lib.ListN.{length, take, drop, length-append}
 use lib.Dec.{eqb}
 use borrow.Author.Tests.{eqb-true}
 use Rattle.sise_util.specs.Chars.{isAtomChr, isStringChr, isEscapedChr}
 use Rattle.sise_util.specs.Classes.{Class, space, quote, tab, atomChr, lineEnd, backslash, other, semicolon, left, right, printable, classOf}
-use Rattle.sise_util.specs.Atom.{Inside, empty, chr, escape, Part, single, string, Atom, one, more, outside, inside, escaped, isAtom, allAtomChrs, isPlain}
+use Rattle.sise_util.specs.Atom.{Inside, empty, chr, escape, Part, single, string, Atom, one, more, outside, inside, escaped, isAtom, allAtomChrs}
 use Rattle.sise_util.proofs.Ranges.{split, and-first, and-second}
 use Rattle.sise_util.proofs.ClassLaws.{among, stringClasses, atom-class, string-class, quote-class, backslash-class}
 
@@ -224,13 +224,9 @@ atom-test (b ∷ l) = (λ h. ⊎-elim (λ e. absurd (none (ap length e))) (λ t.
     none : length (b ∷ l) ≡ 0 → ⊥
     none h = omega arith
 
--- atom characters alone are an atom
-plain-passes : (l : List ℕ) → allAtomChrs l ≡ true → outside l ≡ true
-unfolding outside
-plain-passes [] h = refl
-plain-passes (b ∷ l) h = atom-step b l (and-first (isAtomChr b) (allAtomChrs l) h) ∙ plain-passes l (and-second (isAtomChr b) (allAtomChrs l) h)
-
-pub plain-atom : (a : List ℕ) → isPlain a ≡ true → isAtom a ≡ true
-unfolding isPlain isAtom
-plain-atom [] h = h
-plain-atom (b ∷ l) h = plain-passes (b ∷ l) h
+-- what stands behind atom characters decides
+pub plain-passes : (l : List ℕ) (n : ℕ) → allAtomChrs (take n l) ≡ true → outside (drop n l) ≡ outside l
+plain-passes l zero h = refl
+plain-passes [] (suc n) h = refl
+plain-passes (b ∷ l) (suc n) h =
+    plain-passes l n (and-second (isAtomChr b) (allAtomChrs (take n l)) h) ∙ sym (atom-step b l (and-first (isAtomChr b) (allAtomChrs (take n l)) h))

@@ -10,12 +10,12 @@ use native.Mathlib.Omega.{arith}
 use lib.Dec.{eqb, leb}
 use lib.ListN.{length, take, drop, length-append, length-drop}
 use borrow.Author.Tests.{eqb-true, eq-eqb, ne-eqb, eqb-false}
-use Rattle.sise_util.specs.Chars.{isStringChr, isEscapedChr}
-use Rattle.sise_util.specs.Atom.{Inside, empty, chr, escape, Part, single, string, Atom, one, more, outside, inside, escaped, isAtom, hasQuote, endsString, endsEscaped, isString, kindOf, kindNumber, isKind, kindPrefix, isAtomPrefix}
+use Rattle.sise_util.specs.Chars.{isAtomChr, isStringChr, isEscapedChr}
+use Rattle.sise_util.specs.Atom.{Inside, empty, chr, escape, Part, single, string, Atom, one, more, outside, inside, escaped, isAtom, allAtomChrs, hasQuote, endsString, endsEscaped, isString, kindOf, kindNumber, isKind, kindPrefix, isAtomPrefix}
 use Rattle.sise_util.specs.declared.util.AtomKind.{AtomKind}
 use Rattle.sise_util.specs.declared.util.AtomKind.the-variants.{Plain, String, Mixed, No}
 use Rattle.sise_util.proofs.Ranges.{split, and-first, and-second}
-use Rattle.sise_util.proofs.AtomLaws.{outside-cons, inside-cons, escaped-one, not-at, atom-test}
+use Rattle.sise_util.proofs.AtomLaws.{outside-cons, inside-cons, escaped-one, not-at, plain-passes, atom-test}
 
 -- ---- the definition's cases
 

@@ -4,5 +4,6 @@ pub mod Counts
 pub mod ClassLaws
 pub mod AtomLaws
 pub mod KindLaws
+pub mod PlainRuns
 pub mod Utf8Steps
 pub mod Utf8Laws

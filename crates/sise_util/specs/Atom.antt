@@ -85,14 +85,10 @@ unfoldable pub isAtom : List ℕ → Bool
 isAtom [] = false
 isAtom (b ∷ l) = outside (b ∷ l)
 
--- an atom with no string in it, as most are: atom characters, one or more
+-- atom characters alone
 abbrev pub allAtomChrs : List ℕ → Bool
 allAtomChrs [] = true
 allAtomChrs (b ∷ l) = isAtomChr b && allAtomChrs l
-
-unfoldable pub isPlain : List ℕ → Bool
-isPlain [] = false
-isPlain (b ∷ l) = allAtomChrs (b ∷ l)
 
 -- ---- which atom (document 02, 2.3: "The check of an atom answers plain (no `"`), one whole string, mixed (any other atom), or no")
 

@@ -12,4 +12,3 @@ pub use util::check_atom_prefix;
 pub use util::is_atom_byte;
 pub use util::is_atom_chr;
 pub use util::is_atom_string_chr;
-pub use util::is_plain;

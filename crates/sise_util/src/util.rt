@@ -5,8 +5,8 @@ ghost use Prim.Native.Nat.{_<_};
 ghost use mathlib.Core.Bool.{_&&_};
 ghost use lib.Dec.{eqb};
 ghost use lib.ListN.{length, drop};
-ghost use Rattle.sise_util.specs.Atom.{inside, isPlain, endsString, kindOf, kindNumber, isKind, kindPrefix};
-ghost use Rattle.sise_util.specs.Parts.{afterString, maskOf};
+ghost use Rattle.sise_util.specs.Atom.{inside, endsString, kindOf, kindNumber, isKind, kindPrefix};
+ghost use Rattle.sise_util.specs.Parts.{afterString, maskOf, PlainTo};
 
 // What the check of an atom answers.
 pub enum AtomKind {
@@ -102,24 +102,25 @@ const LOW_ATOM_CHRS: u64 = 0xF7FF_EC7A_0000_0000;
 
 const HIGH_ATOM_CHRS: u64 = 0x47FF_FFFE_87FF_FFFF;
 
-// The mask that has the bit of `byte`.
+// The mask that has the bit of `byte`, below 128.
 fn mask_of(byte: u8) -> u64
     ensures { λ r. ⌜ r ≡ maskOf byte ⌝ }
 {
     if byte < 64 {
         LOW_ATOM_CHRS
-    } else if byte < 128 {
-        HIGH_ATOM_CHRS
     } else {
-        0
+        HIGH_ATOM_CHRS
     }
 }
 
-// The same as is_atom_chr, by a bit of a mask: for loops over many bytes, where it is the faster one. Only the mask is chosen, so that no branch depends
-// on the byte.
+// The same as is_atom_chr, by a bit of a mask: for loops over many bytes, where it is the faster one. Below 128 only the mask is chosen, so that no branch
+// depends on the byte.
 pub fn is_atom_byte(byte: u8) -> bool
     ensures { λ r. ⌜ r ≡ isAtomChr byte ⌝ }
 {
+    if byte >= 128 {
+        return false;
+    }
     (mask_of(byte) >> ((byte % 64) as u64)) % 2 == 1
 }
 
@@ -159,29 +160,29 @@ fn string_end(atom: &[u8], from: usize) -> usize
     0
 }
 
-// Whether `atom` is atom characters alone, one or more: an atom with no string in it. So most atoms are spared the longer check, where it stands in a
-// loop over many.
-pub fn is_plain(atom: &[u8]) -> bool
-    ensures { λ r. ⌜ r ≡ isPlain (now (atom .entry)) ⌝ }
+// The end of the atom characters that `atom` begins with: most atoms have no others. A loop over a run, so it goes by is_atom_byte.
+fn plain_end(atom: &[u8]) -> usize
+    ensures { λ r. ⌜ PlainTo (now (atom .entry)) r ⌝ }
 {
     let mut at = 0;
     while at < atom.len() {
         if !is_atom_byte(atom[at]) {
-            return false;
+            return at;
         }
         at += 1;
     }
-    at != 0
+    at
 }
 
-// Which atom `atom` is: one or more atom characters and strings, or no atom.
-pub fn check_atom(atom: &[u8]) -> AtomKind
+// Which atom `atom` is, whose bytes before `from` are atom characters.
+fn kind_from(atom: &[u8], from: usize) -> AtomKind
+    requires { ⌜ PlainTo (now atom) from ⌝ }
     ensures { λ r. ⌜ r ≡ kindOf (now (atom .entry)) ⌝ }
 {
     if atom.len() == 0 {
         return AtomKind::No;
     }
-    let mut at = 0;
+    let mut at = from;
     let mut quoted = false;
     while at < atom.len() {
         let chr = atom[at];
@@ -209,6 +210,17 @@ pub fn check_atom(atom: &[u8]) -> AtomKind
     }
 }
 
+// Which atom `atom` is: one or more atom characters and strings, or no atom.
+pub fn check_atom(atom: &[u8]) -> AtomKind
+    ensures { λ r. ⌜ r ≡ kindOf (now (atom .entry)) ⌝ }
+{
+    let end = plain_end(atom);
+    if end != 0 && end == atom.len() {
+        return AtomKind::Plain;
+    }
+    kind_from(atom, end)
+}
+
 // Whether a string from `at` to `end` is all of `len` bytes.
 fn is_whole(at: usize, end: usize, len: usize) -> bool
     ensures { λ r. ⌜ r ≡ (eqb at 0 && eqb end len) ⌝ }
@@ -219,12 +231,18 @@ fn is_whole(at: usize, end: usize, len: usize) -> bool
     end == len
 }
 
-// Which atom the first `len` bytes of `rest` are, a text from an atom's first byte on; a length past its end is none.
+// Which atom the first `len` bytes of `rest` are, a text from an atom's first byte on; a length past its end is none. It does as check_atom does, and does
+// not call it: so the loop over a plain atom becomes a part of the test of a table, and what is left of an atom is a call.
 pub fn check_atom_prefix(rest: &[u8], len: usize) -> AtomKind
     ensures { λ r. ⌜ r ≡ kindPrefix (now (rest .entry)) len ⌝ }
 {
     if rest.len() < len {
         return AtomKind::No;
     }
-    check_atom(&rest[..len])
+    let atom = &rest[..len];
+    let end = plain_end(atom);
+    if end != 0 && end == len {
+        return AtomKind::Plain;
+    }
+    kind_from(atom, end)
 }

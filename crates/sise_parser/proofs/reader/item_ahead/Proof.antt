@@ -1,4 +1,4 @@
--- `sise_parser::item_ahead` meets its contract: refusals 11 and 9 first, then what the token gives in the phase.
+-- `sise_parser::item_ahead` meets its contract: refusals 11 and 9 first, then what the token behind the blanks gives in the phase.
 -- Assumes nothing.
 use mathlib.Core.Path.{sym, ap, _∙_}
 use native.Mathlib.Omega.{arith}
@@ -22,6 +22,7 @@ item-ahead-spec =
     (λ c κs. search needs)  -- refused-requires-2
     -- returns-2
     (λ c. c .refused2 .ensures ∙ next-finishing (c .before .before .before .before .before .before .args .text .now) _ (sym (c .before .before .before .before .is-sound .ensures) ∙ not-false _ (c .before .before .before .if1 .left)) (c .before .enum-told .given .1))
+    (λ c κs. search needs)  -- skip-blanks-requires
     (λ c κs. search needs)  -- get-token-requires
     (λ c. search needs)  -- enum-known-wrong
     (λ c κs. search needs)  -- refused-requires-3
@@ -30,20 +31,20 @@ item-ahead-spec =
     (λ c κs. search needs)  -- first-item-requires
     -- inner-item-requires
     (λ c κs.
-    let n = parsing-lists _ _ (sym (c .before .before .before .before .before .before .before .is-sound .ensures) ∙ not-false _ (c .before .before .before .before .before .before .if1 .left)) (is-parsing (c .before .before .before .before .before .before .before .before .before .args .phase) (c .before .before .before .before .before .match .keys2) (c .match3 .keys2)) in
+    let n = parsing-lists _ _ (sym (c .before .before .before .before .before .before .before .before .is-sound .ensures) ∙ not-false _ (c .before .before .before .before .before .before .before .if1 .left)) (is-parsing (c .before .before .before .before .before .before .before .before .before .before .args .phase) (c .before .before .before .before .before .before .match .keys2) (c .match3 .keys2)) in
     (n .0, omega (arith, n .1)))
     -- returns-3
     (λ c.
     c .refused3 .ensures
-    ∙ next-bad (c .before .before .before .before .before .before .before .before .before .args .text .now) _ (sym (c .before .before .before .before .before .before .before .is-sound .ensures) ∙ not-false _ (c .before .before .before .before .before .before .if1 .left)) (c .before .before .before .before .before .match .keys2)
-    (ap lexedAs (sym (c .before .before .wrong .given .1)) ∙ c .before .before .before .before .get-token .ensures))
+    ∙ next-bad (c .before .before .before .before .before .before .before .before .before .before .args .text .now) _ (sym (c .before .before .before .before .before .before .before .before .is-sound .ensures) ∙ not-false _ (c .before .before .before .before .before .before .before .if1 .left)) (c .before .before .before .before .before .before .match .keys2)
+    (ap lexedAs (sym (c .before .before .wrong .given .1)) ∙ c .before .before .before .before .get-token .ensures ∙ sym (c .before .before .before .before .before .skip-blanks .ensures .1 .1)))
     -- returns-4
     (λ c.
     c .first-item .ensures
-    ∙ next-beginning (c .before .before .before .before .before .before .before .before .before .before .before .args .text .now) _ (sym (c .before .before .before .before .before .before .before .before .before .is-sound .ensures) ∙ not-false _ (c .before .before .before .before .before .before .before .before .if1 .left)) (c .before .enum-told2 .given .1)
-    (ap lexedAs (sym (c .before .before .before .before .token .given .1)) ∙ c .before .before .before .before .before .before .get-token .ensures))
+    ∙ next-beginning (c .before .before .before .before .before .before .before .before .before .before .before .before .args .text .now) _ (sym (c .before .before .before .before .before .before .before .before .before .before .is-sound .ensures) ∙ not-false _ (c .before .before .before .before .before .before .before .before .before .if1 .left)) (c .before .enum-told2 .given .1)
+    (ap lexedAs (sym (c .before .before .before .before .token .given .1)) ∙ c .before .before .before .before .before .before .get-token .ensures ∙ sym (c .before .before .before .before .before .before .before .skip-blanks .ensures .1 .1)))
     -- returns-5
     (λ c.
     c .inner-item .ensures
-    ∙ next-parsing (c .before .before .before .before .before .before .before .before .before .before .args .text .now) _ (sym (c .before .before .before .before .before .before .before .before .is-sound .ensures) ∙ not-false _ (c .before .before .before .before .before .before .before .if1 .left)) (is-parsing _ (c .before .before .before .before .before .before .match .keys2) (c .before .match3 .keys2))
-    (ap lexedAs (sym (c .before .before .before .token .given .1)) ∙ c .before .before .before .before .before .get-token .ensures)))
+    ∙ next-parsing (c .before .before .before .before .before .before .before .before .before .before .before .args .text .now) _ (sym (c .before .before .before .before .before .before .before .before .before .is-sound .ensures) ∙ not-false _ (c .before .before .before .before .before .before .before .before .if1 .left)) (is-parsing _ (c .before .before .before .before .before .before .before .match .keys2) (c .before .match3 .keys2))
+    (ap lexedAs (sym (c .before .before .before .token .given .1)) ∙ c .before .before .before .before .before .get-token .ensures ∙ sym (c .before .before .before .before .before .before .skip-blanks .ensures .1 .1))))

@@ -1,4 +1,4 @@
--- By the tests of the code.
+-- By the test of the code.
 -- Assumes nothing.
 use borrow.Author.Tests.{lt-ltb, le-ltb}
 use Rattle.sise_util.specs.Parts.{maskOf}
@@ -11,11 +11,7 @@ returns c = rw (lt-ltb _ _ (c .if1 .taken))
 
 returns-2 : tie.Need-returns-2
 unfolding maskOf
-returns-2 c = rw (le-ltb _ _ (c .before .if1 .left), lt-ltb _ _ (c .if2 .taken))
-
-returns-3 : tie.Need-returns-3
-unfolding maskOf
-returns-3 c = rw (le-ltb _ _ (c .before .if1 .left), le-ltb _ _ (c .if2 .left))
+returns-2 c = rw (le-ltb _ _ (c .if1 .left))
 
 pub mask-of-spec : {M : Type 1} → statement M
-mask-of-spec = tie.close (tie.spec returns returns-2 returns-3)
+mask-of-spec = tie.close (tie.spec returns returns-2)
