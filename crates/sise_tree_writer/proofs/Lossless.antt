@@ -11,7 +11,7 @@ use Rattle.sise_tree.specs.Answers.{Answer, answered, refused}
 use Rattle.sise_tree_writer.specs.Answers.{putAs}
 use Rattle.sise_tree_writer.specs.SerializeTree.{Writes, DoesWrite, DoesMeasure}
 use Rattle.sise_tree_writer.specs.declared.serialize.PutTree.{PutTree}
-use Rattle.sise_tree_writer.specs.declared.serialize.PutTree.the-variants.{At, TextTooLong, UnsoundRecord, NotATree, InvalidAtom, WritingFinished, NoRoom}
+use Rattle.sise_tree_writer.specs.declared.serialize.PutTree.the-variants.{At, TextTooLong, UnsoundRecord, NotATree, InvalidAtom, WritingFinished, NoRoom, SizeChanged}
 use Rattle.sise_tree_writer.specs.declared.serialize.TreeWrote.{TreeWrote}
 
 -- the answer that has this meaning
@@ -22,7 +22,8 @@ putOf (refused e) =
     cond (eqb (e .number) 11) UnsoundRecord (
     cond (eqb (e .number) 15) NotATree (
     cond (eqb (e .number) 17) InvalidAtom (
-    cond (eqb (e .number) 19) WritingFinished NoRoom))))
+    cond (eqb (e .number) 19) WritingFinished (
+    cond (eqb (e .number) 22) NoRoom SizeChanged)))))
 
 put-back : (a : PutTree) → putOf (putAs a) ≡ a
 put-back (At o) = refl
@@ -32,6 +33,7 @@ put-back NotATree = refl
 put-back InvalidAtom = refl
 put-back WritingFinished = refl
 put-back NoRoom = refl
+put-back SizeChanged = refl
 
 pub put-lossless : (a b : PutTree) → putAs a ≡ putAs b → a ≡ b
 put-lossless a b d = sym (put-back a) ∙ ap putOf d ∙ put-back b
