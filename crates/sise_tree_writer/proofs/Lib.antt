@@ -11,6 +11,8 @@ pub mod Placing
 pub mod Rooms
 pub mod TreeRooms
 pub mod Sizes
+pub mod SizeLaws
+pub mod SizeLengths
 pub mod OnlyRoom
 pub mod ReadAgain
 pub mod HouseLaws

@@ -33,11 +33,12 @@ use Rattle.sise_tree_writer.proofs.TreeRooms.{same-number, on-answer}
 -- ---- the counts go up
 
 grown-not : (w : Serializer) → Grown w w
-grown-not w = record { position = omega arith; breaks = omega arith; indents = omega arith }
+grown-not w = record { position = omega arith; spaces = omega arith; breaks = omega arith; indents = omega arith }
 
 grown-on : {u v w : Serializer} → Grown u v → Grown v w → Grown u w
 grown-on a b = record {
   position = omega (arith, a .position, b .position);
+  spaces = omega (arith, a .spaces, b .spaces);
   breaks = omega (arith, a .breaks, b .breaks);
   indents = omega (arith, a .indents, b .indents);
 }
@@ -45,25 +46,25 @@ grown-on a b = record {
 module _ (s : Style) (w : Serializer) where
   inner-grown : (token : List ℕ) (isList : Bool) (g : Gap) → Grown w (innerAs s w token isList g .after)
   unfolding innerAs laid
-  inner-grown token isList newLine = record { position = omega arith; breaks = omega arith; indents = omega arith }
-  inner-grown token isList nothing = record { position = omega arith; breaks = omega arith; indents = omega arith }
-  inner-grown token isList space = record { position = omega arith; breaks = omega arith; indents = omega arith }
+  inner-grown token isList newLine = record { position = omega arith; spaces = omega arith; breaks = omega arith; indents = omega arith }
+  inner-grown token isList nothing = record { position = omega arith; spaces = omega arith; breaks = omega arith; indents = omega arith }
+  inner-grown token isList space = record { position = omega arith; spaces = omega arith; breaks = omega arith; indents = omega arith }
 
   close-grown : (b : Bool) → Grown w (closeAs s w b .after)
   unfolding closeAs
-  close-grown true = record { position = omega arith; breaks = omega arith; indents = omega arith }
-  close-grown false = record { position = omega arith; breaks = omega arith; indents = omega arith }
+  close-grown true = record { position = omega arith; spaces = omega arith; breaks = omega arith; indents = omega arith }
+  close-grown false = record { position = omega arith; spaces = omega arith; breaks = omega arith; indents = omega arith }
 
   last-grown : (wished : Bool) → Grown w (last s w wished .after)
   unfolding last
-  last-grown true = record { position = omega arith; breaks = omega arith; indents = omega arith }
-  last-grown false = record { position = omega arith; breaks = omega arith; indents = omega arith }
+  last-grown true = record { position = omega arith; spaces = omega arith; breaks = omega arith; indents = omega arith }
+  last-grown false = record { position = omega arith; spaces = omega arith; breaks = omega arith; indents = omega arith }
 
   puts-grown : {c : Call} {p : Piece} → Puts s w c p → Grown w (p .after)
   unfolding firstAtom firstList inner close
-  puts-grown (atomAlone e f) = record { position = omega arith; breaks = omega arith; indents = omega arith }
+  puts-grown (atomAlone e f) = record { position = omega arith; spaces = omega arith; breaks = omega arith; indents = omega arith }
   puts-grown (atomInside {a = a} {t = t} e f) = inner-grown a false (gapAt w t)
-  puts-grown (listFirst e) = record { position = omega arith; breaks = omega arith; indents = omega arith }
+  puts-grown (listFirst e) = record { position = omega arith; spaces = omega arith; breaks = omega arith; indents = omega arith }
   puts-grown (listInside {t = t} e) = inner-grown (40 ∷ []) true (gapAt w t)
   puts-grown (listClosed e) = close-grown _
   puts-grown (textEnded {wished = wished} e) = last-grown wished

@@ -83,6 +83,7 @@ MeasuresText s room text words t wished m = (b : List ℕ) → length b ≡ room
 -- no count of the record w is above that of v
 pub record Grown (w v : Serializer) : Type 0 where
   pub position : w .position ≤ v .position
+  pub spaces : w .spaces ≤ v .spaces
   pub breaks : w .breaks ≤ v .breaks
   pub indents : w .indents ≤ v .indents
 
