@@ -1,33 +1,35 @@
 -- The bytes of an enquiry are those of demand 3's length formula for what is added: each item pays for its own, and a tree closes every list that it opens.
 -- Assumes nothing.
-use Prim.Native.Nat.{ℕ, _+_, _-_, _*_}
+use Prim.Native.Nat.{ℕ, _+_, _-_, _*_, _≤_}
 use native.Mathlib.Omega.{arith}
 use mathlib.Core.Path.{_≡_, refl, sym, ap, _∙_}
 use mathlib.Core.Bool.{Bool, true}
 use mathlib.Core.Option.{some}
 use mathlib.Core.List.{List, [], _∷_, _++_, append-assoc, append-nil}
 use lib.ListN.{length, length-append}
-use Rattle.sise_serializer.specs.Serializer.{Style, Written, isSound, freshSerializer}
+use Rattle.sise_parser.specs.Reader.{partOf}
+use Rattle.sise_serializer.specs.Bytes.{pasted}
+use Rattle.sise_serializer.specs.Serializer.{Style, Piece, Written, isSound, freshSerializer, firstAtom, firstList, inner, innerAs, close, closeAs}
 use Rattle.sise_serializer.specs.declared.serializer.Serializer.{Serializer}
-use Rattle.sise_serializer.specs.Calls.{largest, Call, finishCall, endListCall, Placed, itemsOf, step, run}
+use Rattle.sise_serializer.specs.Calls.{largest, Call, putAtomCall, beginListCall, endListCall, finishCall, Placed, itemsOf, step, run}
 use Rattle.sise_serializer.proofs.Sound.{sound}
-use Rattle.sise_serializer.proofs.Kept.{sound-kept}
-use Rattle.sise_serializer.proofs.Verdicts.{Verdict, refuses, puts, verdict}
+use Rattle.sise_serializer.proofs.Kept.{atom-bytes, sound-kept}
+use Rattle.sise_serializer.proofs.Verdicts.{endOf, Puts, atomAlone, atomInside, listFirst, listInside, listClosed, textEnded, Verdict, refuses, puts, verdict}
 use Rattle.sise_layout.specs.Texts.{atomBytes, lists}
 use Rattle.sise_layout.proofs.Written.{writes}
 use Rattle.sise_layout.proofs.Buffers.{tied}
 use Rattle.sise_layout.proofs.Lengths.{bytesOf, Counted, counts}
 use Rattle.sise_tree.specs.Tree.{Node, atom, list, Nodes, empty, _then_}
 use Rattle.sise_tree.specs.Decision.{decide}
-use Rattle.sise_tree_writer.specs.SerializeTree.{nodeCalls, rowCalls, treeCalls, fits, Writes, writeTree, serializeTree}
-use Rattle.sise_tree_writer.specs.Writing.{textCalls, writeText}
+use Rattle.sise_tree_writer.specs.SerializeTree.{nodeCalls, rowCalls, treeCalls, fits, Writes, refuse, writeTree, serializeTree}
+use Rattle.sise_tree_writer.specs.Writing.{textCalls, writeText, IsWritten}
 use Rattle.sise_tree_writer.specs.Walking.{after}
-use Rattle.sise_tree_writer.specs.Sizes.{adds, enquiry}
+use Rattle.sise_tree_writer.specs.Sizes.{adds, enquiry, commitText}
 use Rattle.sise_tree_writer.proofs.CallLaws.{fits-first, run-after, lists-after, accepted-lists}
-use Rattle.sise_tree_writer.proofs.Placing.{puts-end}
+use Rattle.sise_tree_writer.proofs.Placing.{puts-end, lands-put, fits-lands}
 use Rattle.sise_tree_writer.proofs.Measured.{Accepted, tree-accepted}
 use Rattle.sise_tree_writer.proofs.Sizes.{run-grown}
-use Rattle.sise_tree_writer.proofs.SizeLaws.{written-of, size-between}
+use Rattle.sise_tree_writer.proofs.SizeLaws.{other-size, written-of, size-between}
 
 -- ---- the open lists
 
@@ -130,3 +132,56 @@ size-length s b w text words t e = tree-length s b w text words (treeCalls text 
 pub text-length : (s : Style) (b text words : List ℕ) (t : ℕ) (wished : Bool) {x y z : ℕ} → enquiry freshSerializer (writeText s b text words t wished) ≡ adds x y z
     → (n : Node) × (decide text words ≡ some n) × (x ≡ lengthAdded s freshSerializer (writeText s b text words t wished .serializer) (run s b freshSerializer (textCalls text t wished n) .items) y z)
 text-length s b text words t wished e = tree-length s b freshSerializer text words (textCalls text t wished) (text-through text t wished) e
+
+-- ---- no tree takes no byte, so no bytes, breaks and indents at all are never a size
+
+token-some : {s : Style} {w : Serializer} {c : Call} {p : Piece} → ((wished : Bool) → c ≡ finishCall wished → ⊥) → Puts s w c p → 1 ≤ length (p .token)
+unfolding firstAtom firstList inner innerAs close closeAs
+token-some f (atomAlone {a = a} e h) = atom-bytes a h
+token-some f (atomInside {a = a} e h) = atom-bytes a h
+token-some f (listFirst e) = omega arith
+token-some f (listInside e) = omega arith
+token-some f (listClosed e) = omega arith
+token-some f (textEnded {wished = wished} e) = absurd (f wished refl)
+
+first-some : (s : Style) (b : List ℕ) (w : Serializer) (c : Call) (cs : List Call) → ((wished : Bool) → c ≡ finishCall wished → ⊥) → fits s (length b) w (c ∷ cs) ≡ true
+    → w .position + 1 ≤ run s b w (c ∷ cs) .last .position
+unfolding run
+first-some s b w c cs item f =
+    let k = fits-lands s (length b) w c cs f in
+    let r = step s (length b) w c in
+    let at : r .serializer .position ≡ endOf w (k .piece) = ap (λ (x : Written). x .serializer .position) (lands-put k) ∙ puts-end (k .puts) in
+    omega (arith, at, token-some item (k .puts), run-grown s cs (pasted b (w .position) (r .bytes)) (r .serializer) .position)
+
+-- a tree's first call is an item
+first-item : (text : List ℕ) (t : ℕ) (n : Node) → (c : Call) × (cs : List Call) × (treeCalls text t n ≡ c ∷ cs) × ((wished : Bool) → c ≡ finishCall wished → ⊥)
+unfolding nodeCalls
+first-item text t (atom k p m) = (putAtomCall (partOf text p m) t, [], refl, λ wished e. not-atom e)
+  where
+    not-atom : {a : List ℕ} {u : ℕ} {wished : Bool} → putAtomCall a u ≡ finishCall wished → ⊥
+    not-atom {a} {u} {wished} e = let z : _≡_ {A = ℕ} 0 1 = cc in omega arith
+first-item text t (list c) = (beginListCall t, rowCalls text largest t c ++ endListCall ∷ [], refl, λ wished e. not-list e)
+  where
+    not-list : {u : ℕ} {wished : Bool} → beginListCall u ≡ finishCall wished → ⊥
+    not-list {u} {wished} e = let z : _≡_ {A = ℕ} 0 1 = cc in omega arith
+
+-- of serialize_tree and write_text: calls that begin with a tree's
+module _ (s : Style) (b : List ℕ) (w : Serializer) (text words : List ℕ) (t : ℕ) (more : List Call) where
+  pub some-bytes : {x y z : ℕ} → enquiry w (writeTree s b w text words (λ n. treeCalls text t n ++ more)) ≡ adds x y z → 1 ≤ x
+  some-bytes e =
+      let calls : Node → List Call = λ n. treeCalls text t n ++ more in
+      let (o, a, d) = written-of s b w text words calls e in
+      let k = tree-accepted s b w text words calls a in
+      let (c, cs, z, item) = first-item text t (k .node) in
+      let i = rw (k .same) at (size-between s b w text words calls e) in
+      let is : calls (k .node) ≡ c ∷ (cs ++ more) = ap (λ (l : List Call). l ++ more) z in
+      let up : w .position + 1 ≤ run s b w (calls (k .node)) .last .position = rw is (first-some s b w c (cs ++ more) item (rw is at (k .fit))) in
+      omega (arith, i .bytes, up)
+
+-- so with no bytes, as the words that a refused enquiry leaves, no whole text is committed
+pub no-bytes : (s : Style) (b text words : List ℕ) (t : ℕ) (wished : Bool) → IsWritten (writeText s b text words t wished) → (y z : ℕ)
+    → commitText s b text words t wished (adds 0 y z) ≡ refuse 23 b freshSerializer
+unfolding textCalls
+no-bytes s b text words t wished k y z =
+    other-size b freshSerializer (writeText s b text words t wished) (adds 0 y z) k
+    (λ e. let one = some-bytes s b freshSerializer text words t (finishCall wished ∷ []) (sym e) in omega arith)

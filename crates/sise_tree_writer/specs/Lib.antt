@@ -8,3 +8,4 @@ pub mod House
 pub mod Planning
 pub mod Walking
 pub mod WriteExamples
+pub mod SizeExamples
