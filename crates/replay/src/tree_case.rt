@@ -260,13 +260,46 @@ fn put_commits(
     let size = measure_tree(w, line_break, indentation, buf.len(), text, tree, t);
     let at = put_size(out, at, size);
     let none = Measured::NoRoom;
-    let done = put_commit(out, at, w, line_break, indentation, buf, text, tree, t, none);
+    let done = put_commit(
+        out,
+        at,
+        w,
+        line_break,
+        indentation,
+        buf,
+        text,
+        tree,
+        t,
+        none,
+    );
     let at = done.place;
     let w = done.serializer;
-    let done = put_commit(out, at, w, line_break, indentation, buf, text, tree, t, size);
+    let done = put_commit(
+        out,
+        at,
+        w,
+        line_break,
+        indentation,
+        buf,
+        text,
+        tree,
+        t,
+        size,
+    );
     let at = done.place;
     let w = done.serializer;
-    put_commit(out, at, w, line_break, indentation, buf, text, tree, t, size).place
+    put_commit(
+        out,
+        at,
+        w,
+        line_break,
+        indentation,
+        buf,
+        text,
+        tree,
+        t,
+        size,
+    ).place
 }
 
 fn put_house_at(

@@ -117,10 +117,12 @@ module _ (s : Style) (b : List ℕ) (w : Serializer) (text words : List ℕ) (ca
       let n = k .node in
       let g = run-grown s (calls n) b w in
       let i = rw (k .same) at (size-between s b w text words calls e) in
-      let v = run s b w (calls n) .last in
-      (n, k .decided,
-      rw (k .same)
-      (omega (arith, run-counted s b w (calls n) (k .sound) (k .fit) (keeps n (w .lists)), g .spaces, i .bytes, times-more (v .breaks) (w .breaks) y (length (s .lineBreak)) (i .breaks), times-more (v .indents) (w .indents) z (length (s .indentation)) (i .indents))))
+      let v = run s b w (calls n) .last in (
+        n,
+        k .decided,
+        rw (k .same)
+            (omega (arith, run-counted s b w (calls n) (k .sound) (k .fit) (keeps n (w .lists)), g .spaces, i .bytes, times-more (v .breaks) (w .breaks) y (length (s .lineBreak)) (i .breaks), times-more (v .indents) (w .indents) z (length (s .indentation)) (i .indents))),
+      )
 
 -- the size of a tree, in any record
 pub size-length : (s : Style) (b : List ℕ) (w : Serializer) (text words : List ℕ) (t : ℕ) {x y z : ℕ} → enquiry w (serializeTree s b w text words t) ≡ adds x y z

@@ -78,7 +78,8 @@ pub(crate) fn is_size(measured: Measured, before: Serializer, after: Serializer)
         bytes,
         breaks,
         indents,
-    } = measured else {
+    } = measured
+    else {
         return false;
     };
     if bytes != after.position - before.position {
