@@ -16,8 +16,7 @@ ghost use Rattle.sise_serializer.specs.Words.{WritesCalls};
 ghost use Rattle.sise_tree.specs.IndexPath.{indexPath};
 ghost use Rattle.sise_tree.specs.ParseText.{parseText};
 ghost use Rattle.sise_tree_writer.specs.Writing.{writeText};
-ghost use Rattle.sise_tree_writer.specs.Sizes.{commitText};
-ghost use Rattle.sise_c.specs.Reports.{checked, Reports, sizeOf, ReportsSize, sizeGiven};
+ghost use Rattle.sise_c.specs.Reports.{checked, Reports, sizeOf, ReportsSize, TellsCommit, WritesCommit};
 ghost use Rattle.sise_c.specs.Items.{readItems};
 
 // What a call answers beside its result: the answer and 0, or the refusal's place and code point.
@@ -118,8 +117,8 @@ pub fn commit_tree(
     size: &Size,
     values: &mut Values,
 ) -> u32
-    ensures answer { λ r. ⌜ Reports (sizeOf (commitText (style (now («line_break» .entry)) (now (indentation .entry))) (now (buf .entry)) (now (text .entry)) (now (table .entry)) «break_line_at» «final_break» (sizeGiven (now (size .entry))))) r (now (values .exit)) ⌝ }
-    ensures bytes { λ r. ⌜ now (buf .exit) ≡ commitText (style (now («line_break» .entry)) (now (indentation .entry))) (now (buf .entry)) (now (text .entry)) (now (table .entry)) «break_line_at» «final_break» (sizeGiven (now (size .entry))) .buffer ⌝ }
+    ensures answer { λ r. ⌜ TellsCommit (style (now («line_break» .entry)) (now (indentation .entry))) (now (buf .entry)) (now (text .entry)) (now (table .entry)) «break_line_at» «final_break» (now (size .entry)) r (now (values .exit)) ⌝ }
+    ensures bytes { λ r. ⌜ WritesCommit (style (now («line_break» .entry)) (now (indentation .entry))) (now (buf .entry)) (now (text .entry)) (now (table .entry)) «break_line_at» «final_break» (now (size .entry)) (now (buf .exit)) ⌝ }
 {
     sise_commit_tree(
         line_break,

@@ -10,7 +10,7 @@ ghost use Rattle.sise_tree.specs.Answers.{numberOf};
 ghost use Rattle.sise_tree_writer.specs.Answers.{putAs};
 ghost use Rattle.sise_tree_writer.specs.SerializeTree.{serializeTree, DoesWrite};
 ghost use Rattle.sise_tree_writer.specs.Writing.{writeText};
-ghost use Rattle.sise_tree_writer.specs.Sizes.{measuredAs, numberIn, commitTree, commitText, MeasuresTree, MeasuresText};
+ghost use Rattle.sise_tree_writer.specs.Sizes.{measuredAs, numberIn, MeasuresTree, CommitsTree, MeasuresText, CommitsText};
 ghost use Rattle.sise_tree_writer.specs.House.{houseAt, house};
 
 // ---- serialize.rt
@@ -72,7 +72,7 @@ pub fn commit_tree(
     break_line_at: u64,
     measured: Measured,
 ) -> TreeWrote
-    ensures { λ r. ⌜ DoesWrite (commitTree (style (now («line_break» .entry)) (now (indentation .entry))) (now (buf .entry)) serializer (now (text .entry)) (now (table .entry)) «break_line_at» (measuredAs measured)) r (now (buf .exit)) ⌝ }
+    ensures { λ r. ⌜ CommitsTree (style (now («line_break» .entry)) (now (indentation .entry))) (now (buf .entry)) serializer (now (text .entry)) (now (table .entry)) «break_line_at» measured r (now (buf .exit)) ⌝ }
 {
     sise_tree_writer::commit_tree(
         serializer,
@@ -161,7 +161,7 @@ pub fn commit_text(
     final_break: bool,
     measured: Measured,
 ) -> TreeWrote
-    ensures { λ r. ⌜ DoesWrite (commitText (style (now («line_break» .entry)) (now (indentation .entry))) (now (buf .entry)) (now (text .entry)) (now (table .entry)) «break_line_at» «final_break» (measuredAs measured)) r (now (buf .exit)) ⌝ }
+    ensures { λ r. ⌜ CommitsText (style (now («line_break» .entry)) (now (indentation .entry))) (now (buf .entry)) (now (text .entry)) (now (table .entry)) «break_line_at» «final_break» measured r (now (buf .exit)) ⌝ }
 {
     sise_tree_writer::commit_text(
         line_break,

@@ -5,10 +5,10 @@ use mathlib.Core.Path.{_≡_}
 use mathlib.Core.Bool.{Bool, cond}
 use mathlib.Core.List.{List, [], _∷_}
 use lib.ListN.{length, getD}
-use Rattle.sise_serializer.specs.Serializer.{freshSerializer}
+use Rattle.sise_serializer.specs.Serializer.{Style, freshSerializer}
 use Rattle.sise_tree.specs.Answers.{Answer, answered, refused, numberOf}
 use Rattle.sise_tree_writer.specs.SerializeTree.{Writes}
-use Rattle.sise_tree_writer.specs.Sizes.{Enquiry, adds, refuses, numberIn, enquiry}
+use Rattle.sise_tree_writer.specs.Sizes.{Enquiry, adds, refuses, numberIn, enquiry, commitText}
 
 -- 17: "`check_atom` says no"
 abbrev pub checked : Bool → ℕ
@@ -50,3 +50,11 @@ ReportsSize room d r now = (b : List ℕ) → length b ≡ room → ReportsEnqui
 -- the answer that three words hand over
 abbrev pub sizeGiven : List ℕ → Enquiry
 sizeGiven l = adds (getD l 0 0) (getD l 1 0) (getD l 2 0)
+
+-- what the commit of a whole text reports, to which the three words `size` are handed over
+abbrev pub TellsCommit : Style → List ℕ → List ℕ → List ℕ → ℕ → Bool → List ℕ → ℕ → List ℕ → Type 0
+TellsCommit s before text words t wished size r now = Reports (sizeOf (commitText s before text words t wished (sizeGiven size))) r now
+
+-- and what it leaves in the buffer
+abbrev pub WritesCommit : Style → List ℕ → List ℕ → List ℕ → ℕ → Bool → List ℕ → List ℕ → Type 0
+WritesCommit s before text words t wished size now = now ≡ commitText s before text words t wished (sizeGiven size) .buffer

@@ -18,7 +18,7 @@ use Rattle.sise_tree.specs.Tree.{Node}
 use Rattle.sise_tree.specs.Answers.{Answer, answered, refused, refusedWith}
 use Rattle.sise_tree_writer.specs.SerializeTree.{treeCalls, Writes, refuse, writeTree, serializeTree, DoesWrite}
 use Rattle.sise_tree_writer.specs.Writing.{textCalls, writeText, IsWritten}
-use Rattle.sise_tree_writer.specs.Sizes.{Enquiry, adds, refuses, measuredAs, added, enquiryBy, enquiry, same, commit, commitTree, commitText, MeasuresTree, MeasuresText}
+use Rattle.sise_tree_writer.specs.Sizes.{Enquiry, adds, refuses, added, enquiryBy, enquiry, same, commit, commitTree, commitText, MeasuresTree, MeasuresText, CommitsTree, CommitsText}
 use Rattle.sise_tree_writer.specs.declared.serialize.TreeWrote.{TreeWrote}
 use Rattle.sise_tree_writer.specs.declared.size.Measured.{Measured}
 use Rattle.sise_tree_writer.proofs.TreeRooms.{tree-measured}
@@ -139,12 +139,12 @@ module _ (s : Style) (b : List ℕ) (w : Serializer) (text words : List ℕ) (ca
 -- ---- of the programs: what measure_tree answers, handed to commit_tree with a buffer of the length asked for, does what serialize_tree does; and so for whole texts
 
 pub pair-tree : (s : Style) (b : List ℕ) (w : Serializer) (text words : List ℕ) (t : ℕ) (m : Measured) {r : TreeWrote} {now : List ℕ}
-    → MeasuresTree s (length b) w text words t m → DoesWrite (commitTree s b w text words t (measuredAs m)) r now
+    → MeasuresTree s (length b) w text words t m → CommitsTree s b w text words t m r now
     → DoesWrite (serializeTree s b w text words t) r now
 pair-tree s b w text words t m h d = rw (ap (commitTree s b w text words t) (h b refl) ∙ one-call b w (serializeTree s b w text words t)) at d
 
 pub pair-text : (s : Style) (b text words : List ℕ) (t : ℕ) (wished : Bool) (m : Measured) {r : TreeWrote} {now : List ℕ}
-    → MeasuresText s (length b) text words t wished m → DoesWrite (commitText s b text words t wished (measuredAs m)) r now
+    → MeasuresText s (length b) text words t wished m → CommitsText s b text words t wished m r now
     → DoesWrite (writeText s b text words t wished) r now
 pair-text s b text words t wished m h d =
     rw (ap (commitText s b text words t wished) (h b refl) ∙ one-call b freshSerializer (writeText s b text words t wished)) at d

@@ -10,7 +10,7 @@ use Rattle.sise_serializer.specs.Serializer.{Style, freshSerializer}
 use Rattle.sise_serializer.specs.declared.serializer.Serializer.{Serializer}
 use Rattle.sise_tree.specs.Answers.{Answer, answered, refused, refusedWith}
 use Rattle.sise_tree_writer.specs.Answers.{putAs}
-use Rattle.sise_tree_writer.specs.SerializeTree.{Writes, refuse, serializeTree}
+use Rattle.sise_tree_writer.specs.SerializeTree.{Writes, refuse, serializeTree, DoesWrite}
 use Rattle.sise_tree_writer.specs.Writing.{writeText}
 use Rattle.sise_tree_writer.specs.declared.serialize.TreeWrote.{TreeWrote}
 use Rattle.sise_tree_writer.specs.declared.size.Measured.{Measured}
@@ -77,6 +77,13 @@ MeasuresTree s room w text words t m = (b : List ℕ) → length b ≡ room → 
 
 abbrev pub MeasuresText : Style → ℕ → List ℕ → List ℕ → ℕ → Bool → Measured → Type 0
 MeasuresText s room text words t wished m = (b : List ℕ) → length b ≡ room → measuredAs m ≡ enquiry freshSerializer (writeText s b text words t wished)
+
+-- what the commit promises, to which the answer m is handed over, and that ended with the result r and the buffer `now`
+abbrev pub CommitsTree : Style → List ℕ → Serializer → List ℕ → List ℕ → ℕ → Measured → TreeWrote → List ℕ → Type 0
+CommitsTree s before w text words t m r now = DoesWrite (commitTree s before w text words t (measuredAs m)) r now
+
+abbrev pub CommitsText : Style → List ℕ → List ℕ → List ℕ → ℕ → Bool → Measured → TreeWrote → List ℕ → Type 0
+CommitsText s before text words t wished m r now = DoesWrite (commitText s before text words t wished (measuredAs m)) r now
 
 -- ---- what the private functions ask for
 

@@ -18,7 +18,7 @@ ghost use Rattle.sise_tree.specs.Answers.{numberOf};
 ghost use Rattle.sise_tree_writer.specs.Answers.{putAs, refusalOf};
 ghost use Rattle.sise_tree_writer.specs.SerializeTree.{isOver, serializeTree, DoesWrite};
 ghost use Rattle.sise_tree_writer.specs.Writing.{Checked, MeasuresNode, PlansTree};
-ghost use Rattle.sise_tree_writer.specs.Sizes.{measuredAs, commitTree, MeasuresTree};
+ghost use Rattle.sise_tree_writer.specs.Sizes.{MeasuresTree, CommitsTree};
 
 // What a call that writes a tree answers: the offset of the first item, or a refusal. Only a commit answers SizeChanged.
 pub enum PutTree {
@@ -192,7 +192,7 @@ pub fn commit_tree(
     break_line_at: u64,
     measured: Measured,
 ) -> TreeWrote
-    ensures { λ r. ⌜ DoesWrite (commitTree (style (now («line_break» .entry)) (now (indentation .entry))) (now (buf .entry)) serializer (now (text .entry)) (now (table .entry)) «break_line_at» (measuredAs measured)) r (now (buf .exit)) ⌝ }
+    ensures { λ r. ⌜ CommitsTree (style (now («line_break» .entry)) (now (indentation .entry))) (now (buf .entry)) serializer (now (text .entry)) (now (table .entry)) «break_line_at» measured r (now (buf .exit)) ⌝ }
 {
     let planned = plan_tree(
         serializer,

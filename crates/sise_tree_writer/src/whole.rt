@@ -19,7 +19,7 @@ ghost use Rattle.sise_serializer.specs.Serializer.{style};
 ghost use Rattle.sise_serializer.specs.Parts.{breakBytes};
 ghost use Rattle.sise_tree_writer.specs.SerializeTree.{DoesWrite};
 ghost use Rattle.sise_tree_writer.specs.Writing.{writeText, PlansText, IsWritten};
-ghost use Rattle.sise_tree_writer.specs.Sizes.{measuredAs, commitText, MeasuresText};
+ghost use Rattle.sise_tree_writer.specs.Sizes.{MeasuresText, CommitsText};
 
 // What write_text answers with a buffer of `room` bytes, and the record that it leaves. Nothing is written.
 pub(crate) fn plan_text(
@@ -134,7 +134,7 @@ pub fn commit_text(
     final_break: bool,
     measured: Measured,
 ) -> TreeWrote
-    ensures { λ r. ⌜ DoesWrite (commitText (style (now («line_break» .entry)) (now (indentation .entry))) (now (buf .entry)) (now (text .entry)) (now (table .entry)) «break_line_at» «final_break» (measuredAs measured)) r (now (buf .exit)) ⌝ }
+    ensures { λ r. ⌜ CommitsText (style (now («line_break» .entry)) (now (indentation .entry))) (now (buf .entry)) (now (text .entry)) (now (table .entry)) «break_line_at» «final_break» measured r (now (buf .exit)) ⌝ }
 {
     let planned = plan_text(
         line_break,
