@@ -238,14 +238,105 @@ fn put_commit(
         break_line_at,
         measured,
     );
-    Committed {
-        serializer: wrote.serializer,
-        place: put_wrote(out, at, buf, wrote),
-    }
+    let serializer = wrote.serializer;
+    let place = put_wrote(out, at, buf, wrote);
+    Committed { serializer, place }
 }
 
-// Measures the tree, and commits it with a refusal, with its size, and with that size again.
+// Commits the tree with a size, and with that size again.
+fn put_twice(
+    out: &mut Block,
+    at: usize,
+    serializer: Serializer,
+    line_break: &[u8],
+    indentation: &[u8],
+    buf: &mut [u8],
+    text: &[u8],
+    tree: &[u32],
+    break_line_at: u64,
+    size: Measured,
+) -> usize {
+    let first = put_commit(
+        out,
+        at,
+        serializer,
+        line_break,
+        indentation,
+        buf,
+        text,
+        tree,
+        break_line_at,
+        size,
+    );
+    let at = first.place;
+    let left = first.serializer;
+    let again = put_commit(
+        out,
+        at,
+        left,
+        line_break,
+        indentation,
+        buf,
+        text,
+        tree,
+        break_line_at,
+        size,
+    );
+    again.place
+}
+
+// Measures the tree, and commits it with a refusal, and twice with its size.
 fn put_commits(
+    out: &mut Block,
+    at: usize,
+    serializer: Serializer,
+    line_break: &[u8],
+    indentation: &[u8],
+    buf: &mut [u8],
+    text: &[u8],
+    tree: &[u32],
+    break_line_at: u64,
+) -> usize {
+    let size = measure_tree(
+        serializer,
+        line_break,
+        indentation,
+        buf.len(),
+        text,
+        tree,
+        break_line_at,
+    );
+    let at = put_size(out, at, size);
+    let first = put_commit(
+        out,
+        at,
+        serializer,
+        line_break,
+        indentation,
+        buf,
+        text,
+        tree,
+        break_line_at,
+        Measured::NoRoom,
+    );
+    let at = first.place;
+    let left = first.serializer;
+    put_twice(
+        out,
+        at,
+        left,
+        line_break,
+        indentation,
+        buf,
+        text,
+        tree,
+        break_line_at,
+        size,
+    )
+}
+
+// The same behind the lists that the case opens.
+fn put_sizes(
     out: &mut Block,
     at: usize,
     line_break: &[u8],
@@ -255,51 +346,19 @@ fn put_commits(
     tree: &[u32],
     calls: TreeCalls,
 ) -> usize {
-    let w = open_lists(line_break, indentation, buf, calls.lists);
-    let t = meant(calls.threshold);
-    let size = measure_tree(w, line_break, indentation, buf.len(), text, tree, t);
-    let at = put_size(out, at, size);
-    let none = Measured::NoRoom;
-    let done = put_commit(
+    let serializer = open_lists(line_break, indentation, buf, calls.lists);
+    let at_line = meant(calls.threshold);
+    put_commits(
         out,
         at,
-        w,
+        serializer,
         line_break,
         indentation,
         buf,
         text,
         tree,
-        t,
-        none,
-    );
-    let at = done.place;
-    let w = done.serializer;
-    let done = put_commit(
-        out,
-        at,
-        w,
-        line_break,
-        indentation,
-        buf,
-        text,
-        tree,
-        t,
-        size,
-    );
-    let at = done.place;
-    let w = done.serializer;
-    put_commit(
-        out,
-        at,
-        w,
-        line_break,
-        indentation,
-        buf,
-        text,
-        tree,
-        t,
-        size,
-    ).place
+        at_line,
+    )
 }
 
 fn put_house_at(
@@ -358,7 +417,7 @@ fn put_writings(
     let mut house = memory();
     let at = put_houses(out, at, &mut house[..room], text, tree, calls);
     let mut sized = memory();
-    put_commits(
+    put_sizes(
         out,
         at,
         line_break,

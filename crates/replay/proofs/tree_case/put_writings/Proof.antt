@@ -21,6 +21,6 @@ put-writings-spec =
     (λ c κs. search needs)  -- put-houses-requires
     (λ c κs. search needs)  -- memory-requires-3
     (λ c. search needs)  -- array-borrow-prefix-sized
-    (λ c. sym (length-take-le _ _ (omega arith)))  -- slice-aggregate-put-commits
-    (λ c κs. search needs)  -- put-commits-requires
+    (λ c. sym (length-take-le _ _ (omega arith)))  -- slice-aggregate-put-sizes
+    (λ c κs. search needs)  -- put-sizes-requires
     (λ c. search needs))  -- returns
