@@ -1,5 +1,5 @@
 //! The calls that the static libraries sise_c and sise_singly export. A slice crosses as its first element's address and its length; it has to outlive the
-//! call, and nobody else may hold one that the call writes. `values` are two words.
+//! call, and nobody else may hold one that the call writes. `values` are two words, `size` three.
 
 extern "C" {
     pub fn sise_check_atom(atom: *const u8, atom_len: usize) -> u32;
@@ -47,12 +47,30 @@ extern "C" {
         line_break_len: usize,
         indentation: *const u8,
         indentation_len: usize,
+        buf_len: usize,
         text: *const u8,
         text_len: usize,
         table: *const u32,
         table_len: usize,
         break_line_at: u64,
         final_break: bool,
+        size: *mut u64,
+    ) -> u32;
+
+    pub fn sise_commit_tree(
+        line_break: *const u8,
+        line_break_len: usize,
+        indentation: *const u8,
+        indentation_len: usize,
+        buf: *mut u8,
+        buf_len: usize,
+        text: *const u8,
+        text_len: usize,
+        table: *const u32,
+        table_len: usize,
+        break_line_at: u64,
+        final_break: bool,
+        size: *const u64,
         values: *mut u64,
     ) -> u32;
 

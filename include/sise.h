@@ -6,8 +6,8 @@
  *
  * A text is bytes: one node, which is an atom or a list of nodes, as in (stage (x -12.5 "a b")). Space, tab, LF and CR may stand
  * between them, and so may a comment, from `;` to the line's end. Each call does a whole job: it checks an atom or says its
- * kind, reads a text into a table, finds a node in a table, writes or measures a table's tree as a text, reads a text's items
- * into words, or runs a list of writer calls. examples/c/show.c is a small program over them; examples/c/calls.c makes each
+ * kind, reads a text into a table, finds a node in a table, writes a table's tree as a text, or measures it first and then
+ * commits it, reads a text's items into words, or runs a list of writer calls. examples/c/show.c is a small program over them; examples/c/calls.c makes each
  * call with all that it takes and prints all that it gives.
  *
  * Memory. The caller owns all memory and lends it for the time of the call: no call allocates, keeps a pointer, has a state
@@ -80,7 +80,8 @@ enum sise_refusal {
     SISE_NO_LIST_TO_END = 18,       /* only in the answers of sise_write_calls */
     SISE_WRITING_FINISHED = 19,     /* only there: the node is whole, or finish was called */
     SISE_WRITING_NOT_FINISHED = 20, /* only there: finish before the node is whole */
-    SISE_NO_ROOM = 22               /* the text would pass the buffer's end, or SISE_LONGEST */
+    SISE_NO_ROOM = 22,              /* the text would pass the buffer's end, or SISE_LONGEST */
+    SISE_SIZE_CHANGED = 23          /* the size handed to sise_commit_tree is not that of its text */
 };
 
 /*
@@ -129,13 +130,27 @@ uint32_t sise_serialize_tree(const uint8_t *line_break, size_t line_break_len, c
                              uint64_t values[2]);
 
 /*
- * Answers the number of bytes that sise_serialize_tree writes of the same tree in the same layout: what it answers with a
- * buffer of SISE_LONGEST bytes. Nothing is written.
- * Refused: 13; 15; 17; 22, where the text would pass SISE_LONGEST.
+ * Size first: what sise_serialize_tree would write of the same tree in the same layout, with a buffer of buf_len bytes. size[0]
+ * is the number of bytes, size[1] that of line breaks and size[2] that of indentations; of a refusal all three are 0. Nothing
+ * else is written. In every buffer that holds the text its size is the same: a program that has no buffer yet asks with
+ * SISE_LONGEST and lends one of size[0] bytes.
+ * Refused: 13; 15; 17; 22, where the text would pass buf_len or SISE_LONGEST.
  */
 uint32_t sise_measure_tree(const uint8_t *line_break, size_t line_break_len, const uint8_t *indentation,
-                           size_t indentation_len, const uint8_t *text, size_t text_len, const uint32_t *table,
-                           size_t table_len, uint64_t break_line_at, bool final_break, uint64_t values[2]);
+                           size_t indentation_len, size_t buf_len, const uint8_t *text, size_t text_len,
+                           const uint32_t *table, size_t table_len, uint64_t break_line_at, bool final_break,
+                           uint64_t size[3]);
+
+/*
+ * Then the text: writes the tree as sise_serialize_tree does, and answers the same, if the size is what sise_measure_tree
+ * gives now with a buffer of this length. If it is another one, as where the profile or the layout has changed since, the
+ * commit is refused with 23, and nothing is written. The three words of a refused sise_measure_tree are no size.
+ * Refused: 13; 15; 17; 22; 23.
+ */
+uint32_t sise_commit_tree(const uint8_t *line_break, size_t line_break_len, const uint8_t *indentation,
+                          size_t indentation_len, uint8_t *buf, size_t buf_len, const uint8_t *text, size_t text_len,
+                          const uint32_t *table, size_t table_len, uint64_t break_line_at, bool final_break,
+                          const uint64_t size[3], uint64_t values[2]);
 
 /*
  * Reads the items of a whole text into the first words, four an item; the words after them stay as they are. Answers the number

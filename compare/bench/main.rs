@@ -260,6 +260,36 @@ fn tree_written(name: &str, text: &str, threshold: usize) {
     );
 }
 
+/// A text's tree written in one call, measured, and measured and then committed: the times as parts of the first.
+fn tree_committed(name: &str, text: &str, threshold: usize) {
+    let mut trees = Trees::new(text);
+    assert!(trees.agree(threshold));
+    let written = trees.write_by_library(threshold);
+    assert_eq!(trees.commit_by_library(threshold), written);
+    let (mut once, mut measured, mut pair) = (f64::MAX, f64::MAX, f64::MAX);
+    for _ in 0..ROUNDS {
+        once = once.min(seconds(|| trees.write_by_library(threshold)));
+        measured = measured.min(seconds(|| trees.measure_by_library(threshold)));
+        pair = pair.min(seconds(|| trees.commit_by_library(threshold)));
+    }
+    println!(
+        "{name:<28} {written:>10} bytes {:>8.2} {:>12.2}",
+        measured / once,
+        pair / once
+    );
+}
+
+fn sizes(size: usize) {
+    println!(
+        "{:<28} {:>16} {:>8} {:>12}",
+        "one call is 1", "", "measured", "and committed"
+    );
+    let profile = typical(size);
+    for (place, threshold) in [("broken", 0), ("at 80", 80), ("one line", usize::MAX)] {
+        tree_committed(&format!("typical, {place}"), &profile, threshold);
+    }
+}
+
 /// A path through a text's tree.
 fn tree_indexed(name: &str, text: &str, path: &[usize]) {
     let trees = Trees::new(text);
@@ -368,4 +398,5 @@ fn main() {
     written("long atoms, at 80", &long, 80);
     written("one atom alone", "limit", 80);
     trees(SIZE);
+    sizes(SIZE);
 }

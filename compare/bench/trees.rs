@@ -1,6 +1,8 @@
 //! Trees: the same text by the library's tree calls and by the crate's.
 
-use crate::exported::{sise_index_path, sise_parse_tree, sise_serialize_tree};
+use crate::exported::{
+    sise_commit_tree, sise_index_path, sise_measure_tree, sise_parse_tree, sise_serialize_tree,
+};
 use crate::parse_tree::parse_tree;
 use crate::serialize_tree::serialize_tree;
 use crate::serializer::Serializer;
@@ -65,6 +67,52 @@ impl<'a> Trees<'a> {
                 self.table.len(),
                 threshold as u64,
                 false,
+                values,
+            )
+        })
+    }
+
+    /// Bytes, line breaks and indentations.
+    pub fn measure_by_library(&self, threshold: usize) -> [u64; 3] {
+        let mut size = [0; 3];
+        let number = unsafe {
+            sise_measure_tree(
+                STYLE.line_break.as_ptr(),
+                STYLE.line_break.len(),
+                STYLE.indentation.as_ptr(),
+                STYLE.indentation.len(),
+                self.buffer.len(),
+                self.text.as_ptr(),
+                self.text.len(),
+                self.table.as_ptr(),
+                self.table.len(),
+                threshold as u64,
+                false,
+                size.as_mut_ptr(),
+            )
+        };
+        assert_eq!(number, 0);
+        size
+    }
+
+    /// Size first, then the text.
+    pub fn commit_by_library(&mut self, threshold: usize) -> u64 {
+        let size = self.measure_by_library(threshold);
+        answered(|values| unsafe {
+            sise_commit_tree(
+                STYLE.line_break.as_ptr(),
+                STYLE.line_break.len(),
+                STYLE.indentation.as_ptr(),
+                STYLE.indentation.len(),
+                self.buffer.as_mut_ptr(),
+                self.buffer.len(),
+                self.text.as_ptr(),
+                self.text.len(),
+                self.table.as_ptr(),
+                self.table.len(),
+                threshold as u64,
+                false,
+                size.as_ptr(),
                 values,
             )
         })

@@ -1,9 +1,9 @@
 //! The exported calls, each on copies of its slices in guarded memory.
 
-use crate::answers::Reported;
+use crate::answers::{refused, Reported};
 use crate::exported::{
-    sise_atom_kind, sise_check_atom, sise_count_items, sise_index_path, sise_measure_tree,
-    sise_parse_tree, sise_read_items, sise_serialize_tree, sise_write_calls,
+    sise_atom_kind, sise_check_atom, sise_commit_tree, sise_count_items, sise_index_path,
+    sise_measure_tree, sise_parse_tree, sise_read_items, sise_serialize_tree, sise_write_calls,
     sise_write_calls_singly,
 };
 use crate::guard::{Edge, Region};
@@ -29,6 +29,26 @@ pub struct Wrote {
     pub position: u64,
     pub buffer: Vec<u8>,
     pub answers: Vec<u64>,
+}
+
+/// Bytes, line breaks and indentations.
+pub type Size = [u64; 3];
+
+/// What an enquiry leaves.
+#[derive(Clone, Copy, PartialEq)]
+pub struct Measured {
+    pub number: u32,
+    pub size: Size,
+}
+
+impl Measured {
+    /// The bytes, or the refusal.
+    pub fn answer(&self) -> u64 {
+        match self.number {
+            0 => self.size[0],
+            number => refused(u64::from(number)),
+        }
+    }
 }
 
 /// Memory for each slice that a call takes.
@@ -166,37 +186,84 @@ impl Calls {
         (reported(number, &values.values()), buffer.values())
     }
 
+    /// The number, and the three words of the size.
     pub fn measure_tree(
         &mut self,
         style: &Style,
+        room: usize,
         text: &[u8],
         table: &[u32],
         break_line_at: u64,
         final_break: bool,
         edge: Edge,
-    ) -> Reported {
+    ) -> Measured {
         self.made += 1;
         let line_break = self.line_break.lend(&style.line_break, edge);
         let indentation = self.indentation.lend(&style.indentation, edge);
         let text = self.text.lend(text, edge);
         let table = self.table.lend(table, edge);
-        let values = self.values.lend(&BEFORE, edge);
+        let size = self.values.lend(&[u64::MAX; 3], edge);
         let number = unsafe {
             sise_measure_tree(
                 line_break.first(),
                 line_break.len(),
                 indentation.first(),
                 indentation.len(),
+                room,
                 text.first(),
                 text.len(),
                 table.first(),
                 table.len(),
                 break_line_at,
                 final_break,
+                size.first(),
+            )
+        };
+        Measured {
+            number,
+            size: size.values().try_into().expect("three words were lent"),
+        }
+    }
+
+    /// The answer, and the buffer after the call.
+    pub fn commit_tree(
+        &mut self,
+        style: &Style,
+        buffer: &[u8],
+        text: &[u8],
+        table: &[u32],
+        break_line_at: u64,
+        final_break: bool,
+        size: &Size,
+        edge: Edge,
+    ) -> (Reported, Vec<u8>) {
+        self.made += 1;
+        let line_break = self.line_break.lend(&style.line_break, edge);
+        let indentation = self.indentation.lend(&style.indentation, edge);
+        let buffer = self.buffer.lend(buffer, edge);
+        let text = self.text.lend(text, edge);
+        let table = self.table.lend(table, edge);
+        let size = self.words.lend(size, edge);
+        let values = self.values.lend(&BEFORE, edge);
+        let number = unsafe {
+            sise_commit_tree(
+                line_break.first(),
+                line_break.len(),
+                indentation.first(),
+                indentation.len(),
+                buffer.first(),
+                buffer.len(),
+                text.first(),
+                text.len(),
+                table.first(),
+                table.len(),
+                break_line_at,
+                final_break,
+                size.first(),
                 values.first(),
             )
         };
-        reported(number, &values.values())
+        (reported(number, &values.values()), buffer.values())
     }
 
     /// The answer, and the words after the call.

@@ -83,6 +83,7 @@ fn tree(random: &mut Random, text: Vec<u8>, table: Vec<u32>) -> Tree {
         buffer: bytes(random, room),
         break_line_at: threshold(random),
         final_break: random.percent(50),
+        size: [room, 10, 40].map(|near| hostile(random, near)),
     }
 }
 

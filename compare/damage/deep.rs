@@ -164,14 +164,32 @@ impl Deep {
         expected: &[u8],
     ) -> Check {
         let text = &self.text;
+        let room = expected.len();
         let measured = self.timed("measured", || {
-            calls.measure_tree(style, text, table, threshold, last, Edge::End)
+            calls.measure_tree(style, room, text, table, threshold, last, Edge::End)
         });
         ensure(
-            measured.answer(text.len())? == expected.len() as u64,
+            measured.answer() == expected.len() as u64,
             "measure_tree: deep lists",
         )?;
         let mut buffer = vec![b'.'; expected.len()];
+        let size = measured.size;
+        let (wrote, after) = self.timed("committed", || {
+            calls.commit_tree(
+                style,
+                &buffer,
+                text,
+                table,
+                threshold,
+                last,
+                &size,
+                Edge::End,
+            )
+        });
+        ensure(
+            wrote.answer(text.len())? == expected.len() as u64 && after == expected,
+            "commit_tree: deep lists",
+        )?;
         let (wrote, after) = self.timed("written", || {
             calls.serialize_tree(style, &buffer, text, table, threshold, last, Edge::End)
         });

@@ -8,7 +8,7 @@ const MOST: usize = 300;
 
 pub fn tree_shown(tree: &Tree) -> String {
     format!(
-        "text {}; table {}; paths {:x?}; line break {}; indentation {}; buffer of {} bytes; threshold {:x}; final break {}",
+        "text {}; table {}; paths {:x?}; line break {}; indentation {}; buffer of {} bytes; threshold {:x}; final break {}; size made up {:x?}",
         values(&tree.text, ""),
         values(&tree.table, " "),
         tree.paths,
@@ -17,6 +17,7 @@ pub fn tree_shown(tree: &Tree) -> String {
         tree.buffer.len(),
         tree.break_line_at,
         tree.final_break,
+        tree.size,
     )
 }
 

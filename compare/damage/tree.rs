@@ -1,8 +1,9 @@
-//! `sise_index_path`, `sise_serialize_tree` and `sise_measure_tree` on any table.
+//! `sise_index_path`, `sise_serialize_tree`, `sise_measure_tree` and `sise_commit_tree` on any table.
 
 use crate::answers::{ensure, only_first, refusal, refused, twice, Check};
-use crate::calls::{Calls, Style};
+use crate::calls::{Calls, Measured, Size, Style};
 use crate::forms::{held, node_at, Held};
+use crate::limits::LONGEST;
 
 pub struct Tree {
     pub text: Vec<u8>,
@@ -12,6 +13,8 @@ pub struct Tree {
     pub buffer: Vec<u8>,
     pub break_line_at: u64,
     pub final_break: bool,
+    /// A size that somebody made up.
+    pub size: Size,
 }
 
 impl Tree {
@@ -27,12 +30,22 @@ impl Tree {
             (answer == refused(17)) == (held == Held::NoAtom),
             "serialize_tree: 17 where an atom of the tree is none",
         )?;
-        let measured = self.measured(calls)?;
-        let short = refusal(measured).is_none() && measured > self.buffer.len() as u64;
+        let measured = self.measured(calls, self.buffer.len())?;
         ensure(
-            answer == if short { refused(22) } else { measured },
+            answer == measured.answer(),
             "measure_tree: what serialize_tree writes",
         )?;
+        let whole = self.measured(calls, LONGEST)?;
+        let short = whole.number == 0 && whole.size[0] > self.buffer.len() as u64;
+        ensure(
+            if short {
+                measured.number == 22
+            } else {
+                measured == whole
+            },
+            "measure_tree: the same size in every buffer that holds it",
+        )?;
+        self.check_commits(calls, measured, answer, &written)?;
         if refusal(answer).is_none() {
             self.check_rooms(calls, &written[..answer as usize])?;
         }
@@ -55,13 +68,83 @@ impl Tree {
         Ok(())
     }
 
-    fn measured(&self, calls: &mut Calls) -> Check<u64> {
+    fn measured(&self, calls: &mut Calls, room: usize) -> Check<Measured> {
         let Self {
             text, table, style, ..
         } = self;
         let (threshold, last) = (self.break_line_at, self.final_break);
-        let reported = twice(|edge| calls.measure_tree(style, text, table, threshold, last, edge))?;
-        reported.answer(text.len())
+        let measured =
+            twice(|edge| calls.measure_tree(style, room, text, table, threshold, last, edge))?;
+        let [bytes, breaks, indents] = measured.size;
+        if measured.number != 0 {
+            ensure(measured.size == [0; 3], "measure_tree: refused, no size")?;
+        } else {
+            ensure(bytes > 0, "measure_tree: some bytes")?;
+            let layout = breaks * style.line_break.len() as u64
+                + indents * style.indentation.len() as u64;
+            ensure(layout < bytes, "measure_tree: the layout is less than all")?;
+            ensure(
+                breaks >= u64::from(last),
+                "measure_tree: the final break is counted",
+            )?;
+            ensure(
+                threshold < u64::MAX || (breaks, indents) == (u64::from(last), 0),
+                "measure_tree: one line",
+            )?;
+        }
+        Ok(measured)
+    }
+
+    /// Commits with the size that was measured, with numbers that are one off, with breaks and indents exchanged, with none, and with one that is made up.
+    fn check_commits(
+        &self,
+        calls: &mut Calls,
+        measured: Measured,
+        answer: u64,
+        written: &[u8],
+    ) -> Check {
+        let [bytes, breaks, indents] = measured.size;
+        let sizes = [
+            measured.size,
+            [bytes.wrapping_sub(1), breaks, indents],
+            [bytes, breaks + 1, indents],
+            [bytes, breaks, indents.wrapping_sub(1)],
+            [bytes, indents, breaks],
+            [0; 3],
+            self.size,
+        ];
+        for size in sizes {
+            let changed = refusal(answer).is_none() && size != measured.size;
+            let (reported, after) = self.committed(calls, &size)?;
+            let (expected, left) = if changed {
+                (refused(23), &self.buffer[..])
+            } else {
+                (answer, written)
+            };
+            ensure(
+                reported == expected,
+                "commit_tree: as serialize_tree, or 23",
+            )?;
+            ensure(after == left, "commit_tree: the bytes")?;
+        }
+        Ok(())
+    }
+
+    fn committed(&self, calls: &mut Calls, size: &Size) -> Check<(u64, Vec<u8>)> {
+        let Self {
+            text,
+            table,
+            style,
+            buffer,
+            ..
+        } = self;
+        let (threshold, last) = (self.break_line_at, self.final_break);
+        let (reported, after) = twice(|edge| {
+            calls.commit_tree(
+                style, buffer, text, table, threshold, last, size, edge,
+            )
+        })?;
+        Ok((reported.answer(text.len())?, after))
     }
 
     /// A buffer that is exactly full, and one a byte shorter.

@@ -9,8 +9,8 @@ use crate::script::{put_record, refused};
 use crate::serializer::{Serializer, SerializerStyle};
 use crate::tree_case::{put_case, TreeCase};
 use crate::tree_model::{
-    held, index_path, opened, parse_tree, read_node, serialize_house_at, serialize_tree, Node,
-    Parsed,
+    commit_tree, held, index_path, measure_tree, opened, parse_tree, read_node,
+    serialize_house_at, serialize_tree, Node, Parsed, Size,
 };
 use crate::writer_judge::{agree, call_original, put_line, wide};
 use crate::writer_model::Model;
@@ -31,6 +31,16 @@ pub fn house_thresholds(case: &TreeCase) -> [u64; 3] {
     [0, case.threshold, HOUSE_THRESHOLD]
 }
 
+/// How often a case commits its tree.
+const COMMITS: usize = 3;
+
+/// A writing of a case's tree: in one call, or with the answer of an enquiry.
+#[derive(Clone, Copy)]
+enum Writing {
+    Call,
+    Commit(Result<Size, u8>),
+}
+
 #[derive(Default)]
 pub struct TreeJudge {
     pub cases: usize,
@@ -45,15 +55,21 @@ impl TreeJudge {
     /// The lines after `CASE` that replay has to print.
     pub fn expected(&mut self, case: &TreeCase) -> Vec<u8> {
         self.cases += 1;
-        self.calls +=
-            case.calls + 1 + case.writings + house_thresholds(case).len() + case.paths.len();
+        self.calls += case.calls
+            + 1
+            + case.writings
+            + house_thresholds(case).len()
+            + COMMITS
+            + 1
+            + case.paths.len();
         let mut lines = Vec::new();
         let mut table = case.fresh_table();
         self.parse(case, &mut table, &mut lines);
         case.store(&mut table);
         let tree = held(&table[case.first..], &case.text);
         let original = tree.as_ref().and_then(|tree| tree_node(tree, &case.text));
-        self.write(case, tree.as_ref(), original.as_ref(), &mut lines);
+        let calls = vec![Writing::Call; case.writings];
+        self.write(case, tree.as_ref(), original.as_ref(), &calls, &mut lines);
         for threshold in house_thresholds(case) {
             self.write_house(
                 case,
@@ -63,6 +79,7 @@ impl TreeJudge {
                 &mut lines,
             );
         }
+        self.commit(case, tree.as_ref(), original.as_ref(), &mut lines);
         for path in &case.paths {
             let answer = index_path(tree.as_ref(), path);
             self.follow_path(case, path, answer, original.as_ref());
@@ -114,11 +131,27 @@ impl TreeJudge {
         self.hold(case, "next_item", items == parsed.node);
     }
 
+    /// The size, and commits with a refusal, with that size, and with it again.
+    fn commit(
+        &mut self,
+        case: &TreeCase,
+        tree: Option<&Node>,
+        original: Option<&TreeNode>,
+        lines: &mut Vec<u8>,
+    ) {
+        let (model, _) = opened(case.style, case.room, case.lists);
+        let size = measure_tree(&model, tree, &case.text, case.threshold);
+        lines.extend_from_slice(measured(size).as_bytes());
+        let commits: [_; COMMITS] = [Err(22), size, size].map(Writing::Commit);
+        self.write(case, tree, original, &commits, lines);
+    }
+
     fn write(
         &mut self,
         case: &TreeCase,
         tree: Option<&Node>,
         original: Option<&TreeNode>,
+        writings: &[Writing],
         lines: &mut Vec<u8>,
     ) {
         let (mut model, opening) = opened(case.style, case.room, case.lists);
@@ -127,15 +160,19 @@ impl TreeJudge {
         for call in &opening {
             serializer = call_original(serializer, call).expect("no finish among the calls");
         }
-        for _ in 0..case.writings {
-            let answer = serialize_tree(&mut model, tree, &case.text, case.threshold);
+        for writing in writings {
+            let (text, threshold) = (&case.text, case.threshold);
+            let answer = match *writing {
+                Writing::Call => serialize_tree(&mut model, tree, text, threshold),
+                Writing::Commit(size) => commit_tree(&mut model, tree, text, threshold, size),
+            };
             self.follow_writing(case, answer, original, &mut serializer);
             self.hold(case, "serialize_tree", agree(&model, &serializer));
             put_writing(lines, answer, &model);
         }
     }
 
-    /// Makes an accepted call on the crate's writer; where the model has 17 or 19, sees that the crate panics. To 15 and 22 it has nothing.
+    /// Makes an accepted call on the crate's writer; where the model has 17 or 19, sees that the crate panics. To 15, 22 and 23 it has nothing.
     fn follow_writing(
         &mut self,
         case: &TreeCase,
@@ -233,6 +270,13 @@ fn put_writing(out: &mut Vec<u8>, answer: Result<usize, u8>, model: &Model) {
     out.extend_from_slice(b"= ");
     out.extend_from_slice(&model.text);
     out.push(b'\n');
+}
+
+fn measured(answer: Result<Size, u8>) -> String {
+    match answer {
+        Ok([bytes, breaks, indents]) => format!("% {bytes} {breaks} {indents}\n"),
+        Err(number) => format!("! {number}\n"),
+    }
 }
 
 fn indexed(answer: Result<usize, u8>) -> String {

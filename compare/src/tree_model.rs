@@ -186,6 +186,40 @@ pub fn serialize_tree(
     write_tree(model, tree, text, threshold, None)
 }
 
+/// Bytes, breaks and indents.
+pub type Size = [usize; 3];
+
+/// What the tree would add, or the refusal.
+pub fn measure_tree(
+    model: &Model,
+    tree: Option<&Node>,
+    text: &[u8],
+    threshold: u64,
+) -> Result<Size, u8> {
+    let mut after = model.clone();
+    serialize_tree(&mut after, tree, text, threshold)?;
+    Ok([
+        after.text.len() - model.text.len(),
+        after.breaks - model.breaks,
+        after.indents - model.indents,
+    ])
+}
+
+/// As `serialize_tree`; 23, "after all of 01's checks", where `measure_tree` has another answer than the one given.
+pub fn commit_tree(
+    model: &mut Model,
+    tree: Option<&Node>,
+    text: &[u8],
+    threshold: u64,
+    given: Result<Size, u8>,
+) -> Result<usize, u8> {
+    let due = measure_tree(model, tree, text, threshold);
+    if due.is_ok() && due != given {
+        return Err(23);
+    }
+    serialize_tree(model, tree, text, threshold)
+}
+
 /// A whole text in house style at a threshold, with a final line break.
 pub fn serialize_house_at(
     model: &mut Model,

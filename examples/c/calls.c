@@ -88,12 +88,36 @@ static void write_table(const uint32_t *table) {
     uint64_t values[2] = {UNTOUCHED, UNTOUCHED};
     uint8_t buf[BUFFER];
     memset(buf, UNTOUCHED, BUFFER);
-    uint32_t number = sise_measure_tree(LINE_BREAK, INDENTATION, BYTES(PROFILE), table, 4 * NODES, 9, true, values);
-    print_result("sise_measure_tree", number, values);
-    values[0] = values[1] = UNTOUCHED;
-    number = sise_serialize_tree(LINE_BREAK, INDENTATION, buf, BUFFER, BYTES(PROFILE), table, 4 * NODES, 9, true, values);
+    uint32_t number =
+        sise_serialize_tree(LINE_BREAK, INDENTATION, buf, BUFFER, BYTES(PROFILE), table, 4 * NODES, 9, true, values);
     print_result("sise_serialize_tree", number, values);
     print_bytes(buf, BUFFER);
+}
+
+static void print_size(uint32_t number, const uint64_t size[3]) {
+    printf("sise_measure_tree: %u, %llu %llu %llu\n", (unsigned)number, (unsigned long long)size[0],
+           (unsigned long long)size[1], (unsigned long long)size[2]);
+}
+
+static void print_committed(const uint32_t *table, uint8_t *buf, const uint64_t size[3]) {
+    uint64_t values[2] = {UNTOUCHED, UNTOUCHED};
+    uint32_t number = sise_commit_tree(LINE_BREAK, INDENTATION, buf, BUFFER, BYTES(PROFILE), table, 4 * NODES, 9, true, size,
+                                       values);
+    print_result("sise_commit_tree", number, values);
+    print_bytes(buf, BUFFER);
+}
+
+/* Measures the profile in a buffer that is a byte short, and in one that holds it; commits it with that size, and with breaks
+ * and indents exchanged. */
+static void commit_table(const uint32_t *table) {
+    uint64_t size[3] = {UNTOUCHED, UNTOUCHED, UNTOUCHED};
+    uint8_t buf[BUFFER];
+    memset(buf, UNTOUCHED, BUFFER);
+    print_size(sise_measure_tree(LINE_BREAK, INDENTATION, 34, BYTES(PROFILE), table, 4 * NODES, 9, true, size), size);
+    print_size(sise_measure_tree(LINE_BREAK, INDENTATION, BUFFER, BYTES(PROFILE), table, 4 * NODES, 9, true, size), size);
+    const uint64_t exchanged[3] = {size[0], size[2], size[1]};
+    print_committed(table, buf, exchanged);
+    print_committed(table, buf, size);
 }
 
 /* Reads a profile of more than one line, and prints it in house style. */
@@ -160,6 +184,7 @@ int main(void) {
     read_table(table);
     find_node(table);
     write_table(table);
+    commit_table(table);
     write_house();
     write_items();
     read_longest();

@@ -1,6 +1,7 @@
 /*
  * Shows a profile: show FILE [CHILD...]
- * It checks the file, prints the node at the end of the path of children, counted from 0, and the whole with every line broken.
+ * It checks the file, prints the node at the end of the path of children, counted from 0, and the whole with every line broken,
+ * the size of each before it. Then the profile is emptied between the size and the text, and is not written.
  */
 #include <errno.h>
 #include <stdio.h>
@@ -41,6 +42,7 @@ static const char *reason(uint32_t number) {
     case SISE_TEXT_TOO_LONG: return "too long";
     case SISE_NO_SUCH_NODE: return "no such node";
     case SISE_NO_ROOM: return "too long to be written";
+    case SISE_SIZE_CHANGED: return "its size has changed";
     default: return "refused";
     }
 }
@@ -97,26 +99,56 @@ static size_t find(const struct profile *profile, const uint64_t *path, size_t p
 /* Every line is at least that long: each is broken. */
 static const uint64_t EVERY_LINE = 0;
 
-/* Prints the subtree of a node, its lines broken at a threshold. */
-static void print(const struct profile *profile, size_t node, uint64_t threshold) {
-    const uint8_t *line_break = (const uint8_t *)"\n", *indentation = (const uint8_t *)"  ";
-    const uint32_t *table = profile->table + 4 * node;
-    size_t table_len = profile->table_len - 4 * node;
+static const uint8_t LINE_BREAK[] = {'\n'}, INDENTATION[] = {' ', ' '};
+
+/* The size of the text of a node's subtree, its lines broken at a threshold. */
+static void measure(const struct profile *profile, size_t node, uint64_t threshold, uint64_t size[3]) {
+    uint32_t number = sise_measure_tree(LINE_BREAK, sizeof(LINE_BREAK), INDENTATION, sizeof(INDENTATION), SISE_LONGEST,
+                                        profile->text, profile->text_len, profile->table + 4 * node,
+                                        profile->table_len - 4 * node, threshold, true, size);
+    if (number != SISE_OK) {
+        refuse("writing", number, size);
+    }
+}
+
+/* Prints that text, if it is still of this size. */
+static uint32_t commit(const struct profile *profile, size_t node, uint64_t threshold, const uint64_t size[3]) {
     uint64_t values[2];
-    uint32_t number = sise_measure_tree(line_break, 1, indentation, 2, profile->text, profile->text_len, table, table_len,
-                                        threshold, true, values);
-    if (number != SISE_OK) {
-        refuse("writing", number, values);
+    uint8_t *buf = memory((size_t)size[0], 1);
+    uint32_t number = sise_commit_tree(LINE_BREAK, sizeof(LINE_BREAK), INDENTATION, sizeof(INDENTATION), buf,
+                                       (size_t)size[0], profile->text, profile->text_len, profile->table + 4 * node,
+                                       profile->table_len - 4 * node, threshold, true, size, values);
+    if (number == SISE_OK) {
+        fwrite(buf, 1, (size_t)values[0], stdout);
     }
-    size_t size = (size_t)values[0];
-    uint8_t *buf = memory(size, 1);
-    number = sise_serialize_tree(line_break, 1, indentation, 2, buf, size, profile->text, profile->text_len, table,
-                                 table_len, threshold, true, values);
-    if (number != SISE_OK) {
-        refuse("writing", number, values);
-    }
-    fwrite(buf, 1, size, stdout);
     free(buf);
+    return number;
+}
+
+/* Shows a text's size, and then the text. */
+static void print(const struct profile *profile, size_t node, uint64_t threshold) {
+    uint64_t size[3];
+    measure(profile, node, threshold, size);
+    printf("%llu bytes, %llu line breaks, %llu indentations\n", (unsigned long long)size[0], (unsigned long long)size[1],
+           (unsigned long long)size[2]);
+    uint32_t number = commit(profile, node, threshold, size);
+    if (number != SISE_OK) {
+        refuse("writing", number, size);
+    }
+}
+
+/* Another program empties the profile after its size was shown: nothing is written. */
+static void print_emptied(const struct profile *profile) {
+    uint64_t size[3];
+    measure(profile, 0, EVERY_LINE, size);
+    uint8_t text[2] = {'(', ')'};
+    struct profile emptied = {text, sizeof(text), NULL, 0};
+    parse("emptied", &emptied);
+    uint32_t number = commit(&emptied, 0, EVERY_LINE, size);
+    if (number != SISE_OK) {
+        printf("emptied: refused with %u: %s\n", (unsigned)number, reason(number));
+    }
+    free(emptied.table);
 }
 
 int main(int argc, char **argv) {
@@ -134,6 +166,7 @@ int main(int argc, char **argv) {
     printf("%s: %llu nodes\n", argv[1], (unsigned long long)parse(argv[1], &profile));
     print(&profile, find(&profile, path, path_len), SISE_ONE_LINE);
     print(&profile, 0, EVERY_LINE);
+    print_emptied(&profile);
     free(profile.table);
     free(profile.text);
     free(path);

@@ -5,7 +5,7 @@
 #[allow(dead_code)]
 mod sise;
 
-use sise::{Refusal, Style};
+use sise::{Refusal, Size, Style};
 
 /// The style: two strings of different lengths.
 const STYLE: Style = Style {
@@ -21,9 +21,6 @@ const BUFFER: usize = 48;
 /// What stands in lent memory before a call.
 const UNTOUCHED: u8 = 46;
 
-/// The most bytes of a text that a tree call reads.
-const LONGEST: usize = 16_777_216;
-
 /// The result's number and the two values that came with it.
 fn numbers(result: Result<usize, Refusal>) -> (u32, u64, u64) {
     match result {
@@ -31,6 +28,8 @@ fn numbers(result: Result<usize, Refusal>) -> (u32, u64, u64) {
         Err(Refusal::IllegalChr { place, chr }) => (1, place, u64::from(u32::from(chr))),
         Err(Refusal::UnexpectedEof { place }) => (5, place, 0),
         Err(Refusal::TextTooLong) => (13, 0, 0),
+        Err(Refusal::NoRoom) => (22, 0, 0),
+        Err(Refusal::SizeChanged) => (23, 0, 0),
         Err(refusal) => panic!("{refusal}"),
     }
 }
@@ -38,6 +37,14 @@ fn numbers(result: Result<usize, Refusal>) -> (u32, u64, u64) {
 fn print_result(call: &str, result: Result<usize, Refusal>) {
     let (number, first, second) = numbers(result);
     println!("{call}: {number}, {first} {second}");
+}
+
+fn print_size(result: Result<Size, Refusal>) {
+    let (number, size) = match result {
+        Ok(size) => (0, [size.bytes, size.breaks, size.indents]),
+        Err(refusal) => (numbers(Err(refusal)).0, [0; 3]),
+    };
+    println!("sise_measure_tree: {number}, {} {} {}", size[0], size[1], size[2]);
 }
 
 /// Prints the words, four a line.
@@ -82,11 +89,28 @@ fn read_table() -> Vec<u32> {
 
 fn write_table(table: &[u32]) {
     let mut buf = [UNTOUCHED; BUFFER];
-    let measured = sise::measure_tree(STYLE, PROFILE, table, 9, true);
-    print_result("sise_measure_tree", measured);
     let written = sise::serialize_tree(STYLE, &mut buf, PROFILE, table, 9, true);
     print_result("sise_serialize_tree", written);
     print_bytes(&buf);
+}
+
+/// Measures the profile in a buffer that is a byte short, and in one that holds it; commits it with that size, and with breaks and indents exchanged.
+fn commit_table(table: &[u32]) {
+    print_size(sise::measure_tree(STYLE, 34, PROFILE, table, 9, true));
+    let measured = sise::measure_tree(STYLE, BUFFER, PROFILE, table, 9, true);
+    print_size(measured);
+    let size = measured.expect("the buffer holds the profile");
+    let mut buf = [UNTOUCHED; BUFFER];
+    let exchanged = Size {
+        breaks: size.indents,
+        indents: size.breaks,
+        ..size
+    };
+    for given in [exchanged, size] {
+        let committed = sise::commit_tree(STYLE, &mut buf, PROFILE, table, 9, true, given);
+        print_result("sise_commit_tree", committed);
+        print_bytes(&buf);
+    }
 }
 
 /// Reads a profile of more than one line, and prints it in house style.
@@ -128,9 +152,9 @@ fn write_items() {
 
 /// A text of spaces as long as a tree call reads, and one of a byte more: row 13 of document 01.
 fn read_longest() {
-    let text = vec![b' '; LONGEST + 1];
+    let text = vec![b' '; sise::LONGEST + 1];
     let mut table = [0; 4];
-    let longest = sise::parse_tree(&text[..LONGEST], &mut table);
+    let longest = sise::parse_tree(&text[..sise::LONGEST], &mut table);
     print_result("16777216 spaces", longest);
     print_result("16777217 spaces", sise::parse_tree(&text, &mut table));
 }
@@ -142,6 +166,7 @@ fn main() {
     let node = sise::index_path(&table, PROFILE, &[1, 0]);
     print_result("sise_index_path", node);
     write_table(&table);
+    commit_table(&table);
     write_house();
     write_items();
     read_longest();

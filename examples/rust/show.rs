@@ -1,11 +1,12 @@
 //! Shows a profile: show FILE [CHILD...]
-//! It checks the file, prints the node at the end of the path of children, counted from 0, and the whole with every line broken.
+//! It checks the file, prints the node at the end of the path of children, counted from 0, and the whole with every line broken, the size of each before it.
+//! Then the profile is emptied between the size and the text, and is not written.
 
 // The program uses some of the calls.
 #[allow(dead_code)]
 mod sise;
 
-use sise::{Refusal, Style};
+use sise::{Refusal, Size, Style};
 use std::error::Error;
 use std::process::ExitCode;
 
@@ -37,14 +38,43 @@ impl Profile {
         Ok(&self.table[4 * node..])
     }
 
-    /// A subtree as a text.
-    fn written(&self, subtree: &[u32], break_line_at: u64) -> Result<String, Refusal> {
-        let style = Style::HOUSE;
-        let size = sise::measure_tree(style, &self.text, subtree, break_line_at, true)?;
-        let mut buf = vec![0; size];
-        sise::serialize_tree(style, &mut buf, &self.text, subtree, break_line_at, true)?;
+    /// The size of a subtree's text.
+    fn measured(&self, subtree: &[u32], break_line_at: u64) -> Result<Size, Refusal> {
+        let (style, room) = (Style::HOUSE, sise::LONGEST);
+        sise::measure_tree(style, room, &self.text, subtree, break_line_at, true)
+    }
+
+    /// That text, if it is still of this size.
+    fn committed(&self, subtree: &[u32], break_line_at: u64, size: Size) -> Result<String, Refusal> {
+        let mut buf = vec![0; size.bytes as usize];
+        let (style, text) = (Style::HOUSE, &self.text);
+        sise::commit_tree(style, &mut buf, text, subtree, break_line_at, true, size)?;
         Ok(String::from_utf8_lossy(&buf).into_owned())
     }
+}
+
+/// Shows a text's size, and then the text.
+fn print_tree(profile: &Profile, subtree: &[u32], break_line_at: u64) -> Result<(), Refusal> {
+    let size = profile.measured(subtree, break_line_at)?;
+    let Size {
+        bytes,
+        breaks,
+        indents,
+    } = size;
+    println!("{bytes} bytes, {breaks} line breaks, {indents} indentations");
+    print!("{}", profile.committed(subtree, break_line_at, size)?);
+    Ok(())
+}
+
+/// Another program empties the profile after its size was shown: nothing is written.
+fn print_emptied(profile: &Profile) -> Result<(), Refusal> {
+    let size = profile.measured(&profile.table, EVERY_LINE)?;
+    let emptied = Profile::read(b"()".to_vec())?;
+    match emptied.committed(&emptied.table, EVERY_LINE, size) {
+        Ok(text) => print!("{text}"),
+        Err(refusal) => println!("emptied: {refusal}"),
+    }
+    Ok(())
 }
 
 fn show(name: &str, path: &[u64]) -> Result<(), Box<dyn Error>> {
@@ -54,8 +84,9 @@ fn show(name: &str, path: &[u64]) -> Result<(), Box<dyn Error>> {
     let node = profile
         .at(path)
         .map_err(|refusal| format!("path: {refusal}"))?;
-    print!("{}", profile.written(node, ONE_LINE)?);
-    print!("{}", profile.written(&profile.table, EVERY_LINE)?);
+    print_tree(&profile, node, ONE_LINE)?;
+    print_tree(&profile, &profile.table, EVERY_LINE)?;
+    print_emptied(&profile)?;
     Ok(())
 }
 

@@ -23,6 +23,7 @@ pub enum Refusal {
     WritingFinished,
     WritingNotFinished,
     NoRoom,
+    SizeChanged,
 }
 
 impl Refusal {
@@ -47,6 +48,7 @@ impl Refusal {
             19 => Self::WritingFinished,
             20 => Self::WritingNotFinished,
             22 => Self::NoRoom,
+            23 => Self::SizeChanged,
             _ => unreachable!("no call is refused with {number}"),
         }
     }
@@ -88,6 +90,7 @@ impl Display for Refusal {
             Self::WritingFinished => of(f, 19, "the writing is finished"),
             Self::WritingNotFinished => of(f, 20, "the writing is not finished"),
             Self::NoRoom => of(f, 22, "too long to be written"),
+            Self::SizeChanged => of(f, 23, "its size has changed"),
         }
     }
 }
@@ -197,26 +200,79 @@ pub fn serialize_tree(
     })
 }
 
-/// The number of bytes that `serialize_tree` writes, with no buffer.
+/// What `serialize_tree` would write: bytes, line breaks and indentations.
+#[derive(Clone, Copy, Debug, PartialEq, Eq)]
+pub struct Size {
+    pub bytes: u64,
+    pub breaks: u64,
+    pub indents: u64,
+}
+
+/// The most bytes of a text that a tree call reads, and the most that any call writes.
+pub const LONGEST: usize = 16_777_216;
+
+/// Size first: what `serialize_tree` would write with a buffer of `buf_len` bytes. In every buffer that holds the text it is the same.
 pub fn measure_tree(
     style: Style,
+    buf_len: usize,
     text: &[u8],
     table: &[u32],
     break_line_at: u64,
     final_break: bool,
-) -> Result<usize, Refusal> {
-    answered(|values| unsafe {
+) -> Result<Size, Refusal> {
+    let mut size = [0; 3];
+    let number = unsafe {
         raw::sise_measure_tree(
             style.line_break.as_ptr(),
             style.line_break.len(),
             style.indentation.as_ptr(),
             style.indentation.len(),
+            buf_len,
             text.as_ptr(),
             text.len(),
             table.as_ptr(),
             table.len(),
             break_line_at,
             final_break,
+            &mut size,
+        )
+    };
+    let [bytes, breaks, indents] = size;
+    match number {
+        0 => Ok(Size {
+            bytes,
+            breaks,
+            indents,
+        }),
+        number => Err(Refusal::new(number, [0; 2])),
+    }
+}
+
+/// Then the text: writes the tree as `serialize_tree` does, if the size is still what `measure_tree` answers.
+pub fn commit_tree(
+    style: Style,
+    buf: &mut [u8],
+    text: &[u8],
+    table: &[u32],
+    break_line_at: u64,
+    final_break: bool,
+    size: Size,
+) -> Result<usize, Refusal> {
+    answered(|values| unsafe {
+        raw::sise_commit_tree(
+            style.line_break.as_ptr(),
+            style.line_break.len(),
+            style.indentation.as_ptr(),
+            style.indentation.len(),
+            buf.as_mut_ptr(),
+            buf.len(),
+            text.as_ptr(),
+            text.len(),
+            table.as_ptr(),
+            table.len(),
+            break_line_at,
+            final_break,
+            &[size.bytes, size.breaks, size.indents],
             values,
         )
     })
@@ -325,12 +381,30 @@ mod raw {
             line_break_len: usize,
             indentation: *const u8,
             indentation_len: usize,
+            buf_len: usize,
             text: *const u8,
             text_len: usize,
             table: *const u32,
             table_len: usize,
             break_line_at: u64,
             final_break: bool,
+            size: *mut [u64; 3],
+        ) -> u32;
+
+        pub fn sise_commit_tree(
+            line_break: *const u8,
+            line_break_len: usize,
+            indentation: *const u8,
+            indentation_len: usize,
+            buf: *mut u8,
+            buf_len: usize,
+            text: *const u8,
+            text_len: usize,
+            table: *const u32,
+            table_len: usize,
+            break_line_at: u64,
+            final_break: bool,
+            size: *const [u64; 3],
             values: *mut [u64; 2],
         ) -> u32;
 

@@ -2,6 +2,7 @@
 // library on one page. An edit of must-fail/ puts a wrong program in the place of a body, and the contract has to refuse it.
 use sise_c::sise_atom_kind;
 use sise_c::sise_check_atom;
+use sise_c::sise_commit_tree;
 use sise_c::sise_index_path;
 use sise_c::sise_measure_tree;
 use sise_c::sise_parse_tree;
@@ -15,11 +16,14 @@ ghost use Rattle.sise_serializer.specs.Words.{WritesCalls};
 ghost use Rattle.sise_tree.specs.IndexPath.{indexPath};
 ghost use Rattle.sise_tree.specs.ParseText.{parseText};
 ghost use Rattle.sise_tree_writer.specs.Writing.{writeText};
-ghost use Rattle.sise_c.specs.Reports.{checked, Reports, sizeOf, ReportsSize};
+ghost use Rattle.sise_c.specs.Reports.{checked, Reports, sizeOf, ReportsSize, TellsCommit, WritesCommit};
 ghost use Rattle.sise_c.specs.Items.{readItems};
 
 // What a call answers beside its result: the answer and 0, or the refusal's place and code point.
 pub type Values = [u64; 2];
+
+// The size of a tree: its bytes, line breaks and indentations.
+pub type Size = [u64; 3];
 
 // Whether the bytes are an atom: 0 or 17.
 pub fn check_atom(atom: &[u8]) -> u32
@@ -76,25 +80,55 @@ pub fn serialize_tree(
     )
 }
 
-// Measures what serialize_tree writes, with no buffer. The first value is how many bytes that is.
+// Measures what serialize_tree would write with a buffer of `buf_len` bytes. The words are its bytes, line breaks and indentations.
 pub fn measure_tree(
     line_break: &[u8],
     indentation: &[u8],
+    buf_len: usize,
     text: &[u8],
     table: &[u32],
     break_line_at: u64,
     final_break: bool,
-    values: &mut Values,
+    size: &mut Size,
 ) -> u32
-    ensures { λ r. ⌜ ReportsSize (λ b. writeText (style (now («line_break» .entry)) (now (indentation .entry))) b (now (text .entry)) (now (table .entry)) «break_line_at» «final_break») r (now (values .exit)) ⌝ }
+    ensures { λ r. ⌜ ReportsSize «buf_len» (λ b. writeText (style (now («line_break» .entry)) (now (indentation .entry))) b (now (text .entry)) (now (table .entry)) «break_line_at» «final_break») r (now (size .exit)) ⌝ }
 {
     sise_measure_tree(
         line_break,
         indentation,
+        buf_len,
         text,
         table,
         break_line_at,
         final_break,
+        size,
+    )
+}
+
+// Writes the tree as serialize_tree does, if the size is still what measure_tree answers.
+pub fn commit_tree(
+    line_break: &[u8],
+    indentation: &[u8],
+    buf: &mut [u8],
+    text: &[u8],
+    table: &[u32],
+    break_line_at: u64,
+    final_break: bool,
+    size: &Size,
+    values: &mut Values,
+) -> u32
+    ensures answer { λ r. ⌜ TellsCommit (style (now («line_break» .entry)) (now (indentation .entry))) (now (buf .entry)) (now (text .entry)) (now (table .entry)) «break_line_at» «final_break» (now (size .entry)) r (now (values .exit)) ⌝ }
+    ensures bytes { λ r. ⌜ WritesCommit (style (now («line_break» .entry)) (now (indentation .entry))) (now (buf .entry)) (now (text .entry)) (now (table .entry)) «break_line_at» «final_break» (now (size .entry)) (now (buf .exit)) ⌝ }
+{
+    sise_commit_tree(
+        line_break,
+        indentation,
+        buf,
+        text,
+        table,
+        break_line_at,
+        final_break,
+        size,
         values,
     )
 }

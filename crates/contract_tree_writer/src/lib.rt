@@ -1,6 +1,7 @@
 // Every public call of sise_tree_writer, under the contract that it has there and with a body that only calls it: the promises of the library on one
 // page. An edit of must-fail/ puts a wrong program in the place of a body, and the contract has to refuse it.
 use sise_serializer::Serializer;
+use sise_tree_writer::Measured;
 use sise_tree_writer::PutTree;
 use sise_tree_writer::TreeWrote;
 ghost use mathlib.Core.Path.{_≡_};
@@ -8,7 +9,8 @@ ghost use Rattle.sise_serializer.specs.Serializer.{style};
 ghost use Rattle.sise_tree.specs.Answers.{numberOf};
 ghost use Rattle.sise_tree_writer.specs.Answers.{putAs};
 ghost use Rattle.sise_tree_writer.specs.SerializeTree.{serializeTree, DoesWrite};
-ghost use Rattle.sise_tree_writer.specs.Writing.{writeText, MeasuresText};
+ghost use Rattle.sise_tree_writer.specs.Writing.{writeText};
+ghost use Rattle.sise_tree_writer.specs.Sizes.{measuredAs, numberIn, MeasuresTree, CommitsTree, MeasuresText, CommitsText};
 ghost use Rattle.sise_tree_writer.specs.House.{houseAt, house};
 
 // ---- serialize.rt
@@ -36,11 +38,68 @@ pub fn serialize_tree(
     )
 }
 
+// What serialize_tree would add with a buffer of `room` bytes. Nothing is written.
+pub fn measure_tree(
+    serializer: Serializer,
+    line_break: &[u8],
+    indentation: &[u8],
+    room: usize,
+    text: &[u8],
+    table: &[u32],
+    break_line_at: u64,
+) -> Measured
+    ensures { λ r. ⌜ MeasuresTree (style (now («line_break» .entry)) (now (indentation .entry))) room serializer (now (text .entry)) (now (table .entry)) «break_line_at» r ⌝ }
+{
+    sise_tree_writer::measure_tree(
+        serializer,
+        line_break,
+        indentation,
+        room,
+        text,
+        table,
+        break_line_at,
+    )
+}
+
+// Writes the tree as serialize_tree does, if `measured` is still what measure_tree answers.
+pub fn commit_tree(
+    serializer: Serializer,
+    line_break: &[u8],
+    indentation: &[u8],
+    buf: &mut [u8],
+    text: &[u8],
+    table: &[u32],
+    break_line_at: u64,
+    measured: Measured,
+) -> TreeWrote
+    ensures { λ r. ⌜ CommitsTree (style (now («line_break» .entry)) (now (indentation .entry))) (now (buf .entry)) serializer (now (text .entry)) (now (table .entry)) «break_line_at» measured r (now (buf .exit)) ⌝ }
+{
+    sise_tree_writer::commit_tree(
+        serializer,
+        line_break,
+        indentation,
+        buf,
+        text,
+        table,
+        break_line_at,
+        measured,
+    )
+}
+
 // 01's number of an answer, 0 for an offset.
 pub fn number(answer: PutTree) -> u32
     ensures { λ r. ⌜ r ≡ numberOf (putAs answer) ⌝ }
 {
     answer.number()
+}
+
+// ---- size.rt
+
+// 01's number of an enquiry's answer, 0 for a size.
+pub fn measured_number(measured: Measured) -> u32
+    ensures { λ r. ⌜ r ≡ numberIn (measuredAs measured) ⌝ }
+{
+    measured.number()
 }
 
 // ---- whole.rt
@@ -68,7 +127,7 @@ pub fn write_text(
     )
 }
 
-// What write_text answers with a buffer of `room` bytes, and the record that it leaves. Nothing is written.
+// What write_text would write with a buffer of `room` bytes. Nothing is written.
 pub fn measure_text(
     line_break: &[u8],
     indentation: &[u8],
@@ -77,7 +136,7 @@ pub fn measure_text(
     table: &[u32],
     break_line_at: u64,
     final_break: bool,
-) -> TreeWrote
+) -> Measured
     ensures { λ r. ⌜ MeasuresText (style (now («line_break» .entry)) (now (indentation .entry))) room (now (text .entry)) (now (table .entry)) «break_line_at» «final_break» r ⌝ }
 {
     sise_tree_writer::measure_text(
@@ -88,6 +147,31 @@ pub fn measure_text(
         table,
         break_line_at,
         final_break,
+    )
+}
+
+// Writes a whole text as write_text does, if `measured` is still what measure_text answers.
+pub fn commit_text(
+    line_break: &[u8],
+    indentation: &[u8],
+    buf: &mut [u8],
+    text: &[u8],
+    table: &[u32],
+    break_line_at: u64,
+    final_break: bool,
+    measured: Measured,
+) -> TreeWrote
+    ensures { λ r. ⌜ CommitsText (style (now («line_break» .entry)) (now (indentation .entry))) (now (buf .entry)) (now (text .entry)) (now (table .entry)) «break_line_at» «final_break» measured r (now (buf .exit)) ⌝ }
+{
+    sise_tree_writer::commit_text(
+        line_break,
+        indentation,
+        buf,
+        text,
+        table,
+        break_line_at,
+        final_break,
+        measured,
     )
 }
 

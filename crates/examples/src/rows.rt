@@ -12,6 +12,9 @@ use sise_tree::Indexed;
 use sise_tree::ParsedTree;
 use sise_tree::index_path;
 use sise_tree::parse_tree;
+use sise_tree_writer::PutTree;
+use sise_tree_writer::commit_text;
+use sise_tree_writer::measure_text;
 
 pub(crate) fn put_put(out: &mut Block, at: usize, name: &[u8], answer: Put) -> usize {
     match answer {
@@ -30,6 +33,13 @@ pub(crate) fn put_parsed(out: &mut Block, at: usize, name: &[u8], answer: Parsed
 pub(crate) fn put_indexed(out: &mut Block, at: usize, name: &[u8], answer: Indexed) -> usize {
     match answer {
         Indexed::Node(index) => put_value(out, at, name, index),
+        _ => put_refused(out, at, name, answer.number(), 0),
+    }
+}
+
+fn put_wrote(out: &mut Block, at: usize, name: &[u8], answer: PutTree) -> usize {
+    match answer {
+        PutTree::At(offset) => put_value(out, at, name, offset),
         _ => put_refused(out, at, name, answer.number(), 0),
     }
 }
@@ -103,6 +113,15 @@ fn no_room(out: &mut Block, at: usize) -> usize {
     put_put(out, at, b"row 22", answer)
 }
 
+// `a` measured, and then `ab` committed: request 2.2.
+fn size_changed(out: &mut Block, at: usize) -> usize {
+    let mut buf = [0u8; 2];
+    let size = measure_text(b"\n", b"  ", 2, b"a", &[1, 0, 1, 1], 0, false);
+    let changed = [1u32, 0, 2, 1];
+    let answer = commit_text(b"\n", b"  ", &mut buf, b"ab", &changed, 0, false, size).answer;
+    put_wrote(out, at, b"row 23", answer)
+}
+
 pub(crate) fn put_rows(out: &mut Block, at: usize) -> usize {
     let at = unsound(out, at);
     let at = closed(out, at);
@@ -110,5 +129,6 @@ pub(crate) fn put_rows(out: &mut Block, at: usize) -> usize {
     let at = no_tree(out, at);
     let at = not_finished(out, at);
     let at = put_put(out, at, b"list 250", nested(250));
-    no_room(out, at)
+    let at = no_room(out, at);
+    size_changed(out, at)
 }

@@ -28,8 +28,11 @@ use sise_tree::ParsedTree;
 use sise_tree::TreeRead;
 use sise_tree::index_path;
 use sise_tree::parse_tree;
+use sise_tree_writer::Measured;
 use sise_tree_writer::PutTree;
 use sise_tree_writer::TreeWrote;
+use sise_tree_writer::commit_tree;
+use sise_tree_writer::measure_tree;
 use sise_tree_writer::serialize_house;
 use sise_tree_writer::serialize_house_at;
 use sise_tree_writer::serialize_tree;
@@ -188,6 +191,176 @@ fn put_trees(
     at
 }
 
+fn put_measured(out: &mut Block, at: usize, measured: Measured) -> usize {
+    if let Measured::Size {
+        bytes,
+        breaks,
+        indents,
+    } = measured {
+        let at = put_letter(out, at, b'%', bytes);
+        let at = put_number(out, at, breaks);
+        return put_number(out, at, indents);
+    }
+    put_letter(out, at, b'!', measured.number() as usize)
+}
+
+// The line of an enquiry.
+fn put_size(out: &mut Block, at: usize, measured: Measured) -> usize {
+    let at = put_measured(out, at, measured);
+    lines::put_byte(out, at, b'\n')
+}
+
+// What a commit leaves, and the place after its lines.
+struct Committed {
+    serializer: Serializer,
+    place: usize,
+}
+
+fn put_commit(
+    out: &mut Block,
+    at: usize,
+    serializer: Serializer,
+    line_break: &[u8],
+    indentation: &[u8],
+    buf: &mut [u8],
+    text: &[u8],
+    tree: &[u32],
+    break_line_at: u64,
+    measured: Measured,
+) -> Committed {
+    let wrote = commit_tree(
+        serializer,
+        line_break,
+        indentation,
+        buf,
+        text,
+        tree,
+        break_line_at,
+        measured,
+    );
+    let serializer = wrote.serializer;
+    let place = put_wrote(out, at, buf, wrote);
+    Committed { serializer, place }
+}
+
+// Commits the tree with a size, and with that size again.
+fn put_twice(
+    out: &mut Block,
+    at: usize,
+    serializer: Serializer,
+    line_break: &[u8],
+    indentation: &[u8],
+    buf: &mut [u8],
+    text: &[u8],
+    tree: &[u32],
+    break_line_at: u64,
+    size: Measured,
+) -> usize {
+    let first = put_commit(
+        out,
+        at,
+        serializer,
+        line_break,
+        indentation,
+        buf,
+        text,
+        tree,
+        break_line_at,
+        size,
+    );
+    let at = first.place;
+    let left = first.serializer;
+    let again = put_commit(
+        out,
+        at,
+        left,
+        line_break,
+        indentation,
+        buf,
+        text,
+        tree,
+        break_line_at,
+        size,
+    );
+    again.place
+}
+
+// Measures the tree, and commits it with a refusal, and twice with its size.
+fn put_commits(
+    out: &mut Block,
+    at: usize,
+    serializer: Serializer,
+    line_break: &[u8],
+    indentation: &[u8],
+    buf: &mut [u8],
+    text: &[u8],
+    tree: &[u32],
+    break_line_at: u64,
+) -> usize {
+    let size = measure_tree(
+        serializer,
+        line_break,
+        indentation,
+        buf.len(),
+        text,
+        tree,
+        break_line_at,
+    );
+    let at = put_size(out, at, size);
+    let first = put_commit(
+        out,
+        at,
+        serializer,
+        line_break,
+        indentation,
+        buf,
+        text,
+        tree,
+        break_line_at,
+        Measured::NoRoom,
+    );
+    let at = first.place;
+    let left = first.serializer;
+    put_twice(
+        out,
+        at,
+        left,
+        line_break,
+        indentation,
+        buf,
+        text,
+        tree,
+        break_line_at,
+        size,
+    )
+}
+
+// The same behind the lists that the case opens.
+fn put_sizes(
+    out: &mut Block,
+    at: usize,
+    line_break: &[u8],
+    indentation: &[u8],
+    buf: &mut [u8],
+    text: &[u8],
+    tree: &[u32],
+    calls: TreeCalls,
+) -> usize {
+    let serializer = open_lists(line_break, indentation, buf, calls.lists);
+    let at_line = meant(calls.threshold);
+    put_commits(
+        out,
+        at,
+        serializer,
+        line_break,
+        indentation,
+        buf,
+        text,
+        tree,
+        at_line,
+    )
+}
+
 fn put_house_at(
     out: &mut Block,
     at: usize,
@@ -215,7 +388,7 @@ fn put_houses(
     put_wrote(out, at, buf, wrote)
 }
 
-// Writes the tree into a buffer of so many bytes, and in house style into another.
+// Writes the tree into a buffer of so many bytes, in house style into another, and by its size into a third.
 fn put_writings(
     out: &mut Block,
     at: usize,
@@ -242,7 +415,18 @@ fn put_writings(
         writings,
     );
     let mut house = memory();
-    put_houses(out, at, &mut house[..room], text, tree, calls)
+    let at = put_houses(out, at, &mut house[..room], text, tree, calls);
+    let mut sized = memory();
+    put_sizes(
+        out,
+        at,
+        line_break,
+        indentation,
+        &mut sized[..room],
+        text,
+        tree,
+        calls,
+    )
 }
 
 fn put_indexed(out: &mut Block, at: usize, answer: Indexed) -> usize {

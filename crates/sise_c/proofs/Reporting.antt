@@ -1,7 +1,7 @@
 -- How answers are reported: one that is answered, one of a tree call with another tag than the first, which is a refusal, and one that a call handed on.
 -- Assumes nothing.
 use Prim.Native.Nat.{ℕ}
-use mathlib.Core.Path.{_≡_, refl, sym, ap, _∙_, subst}
+use mathlib.Core.Path.{_≡_, refl, sym, ap, _∙_}
 use mathlib.Core.List.{List, [], _∷_}
 use types.Run.{OneOf}
 use denote.Enum.Declared.{tagOf}
@@ -18,12 +18,13 @@ use Rattle.sise_tree_writer.specs.declared.serialize.PutTree.{PutTree}
 use Rattle.sise_tree_writer.specs.declared.serialize.PutTree.the-variants as put
 use Rattle.sise_tree_writer.proofs.serialize.PutTree as puts
 use Rattle.sise_tree_writer.specs.declared.serialize.TreeWrote.{TreeWrote}
-use Rattle.sise_tree_writer.specs.SerializeTree.{writeTree, DoesWrite, DoesMeasure}
-use Rattle.sise_tree.specs.Tree.{Node}
-use Rattle.sise_serializer.specs.Calls.{Call}
-use Rattle.sise_serializer.specs.Serializer.{Style, freshSerializer}
+use Rattle.sise_tree_writer.specs.SerializeTree.{Writes, DoesWrite}
+use Rattle.sise_tree_writer.specs.Sizes.{Enquiry, measuredAs, numberIn}
+use Rattle.sise_tree_writer.specs.declared.size.Measured.{Measured}
+use Rattle.sise_tree_writer.specs.declared.size.Measured.the-variants as size
+use Rattle.sise_tree_writer.proofs.size.Measured as sizes
 use Rattle.sise_serializer.specs.declared.serializer.Serializer.{Serializer}
-use Rattle.sise_c.specs.Reports.{valuesOf, Reports, sizeOr, sizeOf}
+use Rattle.sise_c.specs.Reports.{valuesOf, Reports, sizeOr, sizeOf, sizeWords, ReportsEnquiry}
 
 -- the same answer by another name
 pub reports-by : {a b : Answer} {r m : ℕ} {now : List ℕ} → a ≡ b → r ≡ m → Reports b m now → Reports a r now
@@ -46,15 +47,30 @@ indexed-refusal indexed.TextTooLong k = record { result = refl; values = refl }
 indexed-refusal indexed.NotATree k = record { result = refl; values = refl }
 indexed-refusal indexed.NoSuchNode k = record { result = refl; values = refl }
 
-pub put-refusal : (n : ℕ) (a : PutTree) → OneOf (1 ∷ 2 ∷ 3 ∷ 4 ∷ 5 ∷ 6 ∷ []) (tagOf puts.the-type a)
+pub put-refusal : (n : ℕ) (a : PutTree) → OneOf (1 ∷ 2 ∷ 3 ∷ 4 ∷ 5 ∷ 6 ∷ 7 ∷ []) (tagOf puts.the-type a)
     → Reports (sizeOr n (putAs a)) (numberOf (putAs a)) (0 ∷ 0 ∷ [])
-put-refusal n (put.At o) k = absurd (no-zero 0 (1 ∷ 2 ∷ 3 ∷ 4 ∷ 5 ∷ []) k)
+put-refusal n (put.At o) k = absurd (no-zero 0 (1 ∷ 2 ∷ 3 ∷ 4 ∷ 5 ∷ 6 ∷ []) k)
 put-refusal n put.TextTooLong k = record { result = refl; values = refl }
 put-refusal n put.UnsoundRecord k = record { result = refl; values = refl }
 put-refusal n put.NotATree k = record { result = refl; values = refl }
 put-refusal n put.InvalidAtom k = record { result = refl; values = refl }
 put-refusal n put.WritingFinished k = record { result = refl; values = refl }
 put-refusal n put.NoRoom k = record { result = refl; values = refl }
+put-refusal n put.SizeChanged k = record { result = refl; values = refl }
+
+-- an enquiry's answer: a size, or a refusal
+pub size-reported : {m : Measured} {bytes breaks indents : ℕ} → m ≡ size.Size bytes breaks indents → ReportsEnquiry (measuredAs m) 0 (bytes ∷ breaks ∷ indents ∷ [])
+size-reported e = rw e (record { result = refl; size = refl })
+
+pub size-refusal : (m : Measured) {r : ℕ} → r ≡ numberIn (measuredAs m) → OneOf (1 ∷ 2 ∷ 3 ∷ 4 ∷ 5 ∷ 6 ∷ []) (tagOf sizes.the-type m)
+    → ReportsEnquiry (measuredAs m) r (0 ∷ 0 ∷ 0 ∷ [])
+size-refusal (size.Size bytes breaks indents) e k = absurd (no-zero 0 (1 ∷ 2 ∷ 3 ∷ 4 ∷ 5 ∷ []) k)
+size-refusal size.TextTooLong e k = record { result = e; size = refl }
+size-refusal size.UnsoundRecord e k = record { result = e; size = refl }
+size-refusal size.NotATree e k = record { result = e; size = refl }
+size-refusal size.InvalidAtom e k = record { result = e; size = refl }
+size-refusal size.WritingFinished e k = record { result = e; size = refl }
+size-refusal size.NoRoom e k = record { result = e; size = refl }
 
 -- a refusal's number, place and code point, as the three methods give them
 pub reports-refusal : (a : ParsedTree) {r p k : ℕ} → r ≡ numberOf (parsedAs a) → p ≡ placeOf (parsedAs a) → k ≡ codeOf (parsedAs a)
@@ -63,17 +79,13 @@ reports-refusal a {k = k} d e f h =
     let t = parsed-refusal a h in
     record { result = d ∙ t .result; values = ap (λ (x : ℕ). x ∷ k ∷ []) e ∙ ap (λ (x : ℕ). placeOf (parsedAs a) ∷ x ∷ []) f ∙ t .values }
 
--- what a tree's writing, and its measuring, promise of a fresh record
-module _ (s : Style) (buffer text words : List ℕ) (calls : Node → List Call) {q : Serializer} (e : q ≡ freshSerializer) {w : TreeWrote} {r : ℕ} {now : List ℕ} (t : Reports (sizeOr (w .serializer .position) (putAs (w .answer))) r now) where
-  pub reports-measured : DoesMeasure (writeTree s buffer q text words calls) w → Reports (sizeOf (writeTree s buffer freshSerializer text words calls)) r now
-  reports-measured d =
-      let p = subst (λ (x : Serializer). DoesMeasure (writeTree s buffer x text words calls) w) e d in
-      let z = ap (λ (x : Serializer). sizeOr (x .position) (putAs (w .answer))) (p .serializer) ∙ ap (sizeOr (writeTree s buffer freshSerializer text words calls .serializer .position)) (p .answer) in
-      reports-by (sym z) refl t
+-- the same enquiry by another name
+pub enquiry-by : {e f : Enquiry} {r : ℕ} {now : List ℕ} → e ≡ f → ReportsEnquiry e r now → ReportsEnquiry f r now
+enquiry-by z t = record { result = t .result ∙ ap numberIn z; size = t .size ∙ ap sizeWords z }
 
-  pub reports-written : {bytes : List ℕ} → DoesWrite (writeTree s buffer q text words calls) w bytes
-      → Reports (sizeOf (writeTree s buffer freshSerializer text words calls)) r now × (bytes ≡ writeTree s buffer freshSerializer text words calls .buffer)
-  reports-written {bytes} d = (
-    reports-measured (record { serializer = d .serializer; answer = d .answer }),
-    d .buffer ∙ ap (λ (x : Serializer). writeTree s buffer x text words calls .buffer) e,
-  )
+-- what a tree's writing promises: the size and the bytes
+pub reports-written : {d : Writes} {w : TreeWrote} {bytes : List ℕ} {r : ℕ} {now : List ℕ} → DoesWrite d w bytes
+    → Reports (sizeOr (w .serializer .position) (putAs (w .answer))) r now → Reports (sizeOf d) r now × (bytes ≡ d .buffer)
+reports-written {d} {w} p t =
+    let z = ap (λ (x : Serializer). sizeOr (x .position) (putAs (w .answer))) (p .serializer) ∙ ap (sizeOr (d .serializer .position)) (p .answer) in
+    (reports-by (sym z) refl t, p .buffer)

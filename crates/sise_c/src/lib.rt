@@ -6,16 +6,19 @@ mod report;
 
 use items::count_items;
 use items::fill_items;
+use report::Size;
 use report::Values;
 use report::report_indexed;
+use report::report_measured;
 use report::report_parsed;
 use report::report_put;
 use report::report_refused;
+use report::size_given;
 use sise_parser::Finished;
-use sise_serializer::LIMIT;
 use sise_serializer::write_calls;
 use sise_tree::index_path;
 use sise_tree::parse_text;
+use sise_tree_writer::commit_text;
 use sise_tree_writer::measure_text;
 use sise_tree_writer::write_text;
 use sise_util::check_atom;
@@ -26,7 +29,7 @@ ghost use Rattle.sise_serializer.specs.Words.{WritesCalls};
 ghost use Rattle.sise_tree.specs.IndexPath.{indexPath};
 ghost use Rattle.sise_tree.specs.ParseText.{parseText};
 ghost use Rattle.sise_tree_writer.specs.Writing.{writeText};
-ghost use Rattle.sise_c.specs.Reports.{checked, Reports, sizeOf, ReportsSize};
+ghost use Rattle.sise_c.specs.Reports.{checked, Reports, sizeOf, ReportsSize, TellsCommit, WritesCommit};
 ghost use Rattle.sise_c.specs.Items.{readItems};
 
 // Whether the bytes are an atom: 0 or 17.
@@ -97,30 +100,62 @@ pub extern "C" fn sise_serialize_tree(
     report_put(answer, wrote.serializer.position, values)
 }
 
-// How many bytes sise_serialize_tree writes, with no buffer: result and values are what it gives in any buffer of the most bytes that it writes.
+// Size first: the bytes, line breaks and indentations that sise_serialize_tree would write with a buffer of `buf_len` bytes, or its refusal. Nothing is written
+// but the three words of the size, which of a refusal are 0.
 #[no_mangle]
 pub extern "C" fn sise_measure_tree(
     line_break: &[u8],
     indentation: &[u8],
+    buf_len: usize,
     text: &[u8],
     table: &[u32],
     break_line_at: u64,
     final_break: bool,
-    values: &mut Values,
+    size: &mut Size,
 ) -> u32
-    ensures { λ r. ⌜ ReportsSize (λ b. writeText (style (now («line_break» .entry)) (now (indentation .entry))) b (now (text .entry)) (now (table .entry)) «break_line_at» «final_break») r (now (values .exit)) ⌝ }
+    ensures { λ r. ⌜ ReportsSize «buf_len» (λ b. writeText (style (now («line_break» .entry)) (now (indentation .entry))) b (now (text .entry)) (now (table .entry)) «break_line_at» «final_break») r (now (size .exit)) ⌝ }
 {
     let measured = measure_text(
         line_break,
         indentation,
-        LIMIT,
+        buf_len,
         text,
         table,
         break_line_at,
         final_break,
     );
-    let answer = measured.answer;
-    report_put(answer, measured.serializer.position, values)
+    report_measured(measured, size)
+}
+
+// Then the text: writes it as sise_serialize_tree does, if the size is still what sise_measure_tree answers with a buffer of this length, and else refuses with
+// 23, after all other refusals.
+#[no_mangle]
+pub extern "C" fn sise_commit_tree(
+    line_break: &[u8],
+    indentation: &[u8],
+    buf: &mut [u8],
+    text: &[u8],
+    table: &[u32],
+    break_line_at: u64,
+    final_break: bool,
+    size: &Size,
+    values: &mut Values,
+) -> u32
+    ensures answer { λ r. ⌜ TellsCommit (style (now («line_break» .entry)) (now (indentation .entry))) (now (buf .entry)) (now (text .entry)) (now (table .entry)) «break_line_at» «final_break» (now (size .entry)) r (now (values .exit)) ⌝ }
+    ensures bytes { λ r. ⌜ WritesCommit (style (now («line_break» .entry)) (now (indentation .entry))) (now (buf .entry)) (now (text .entry)) (now (table .entry)) «break_line_at» «final_break» (now (size .entry)) (now (buf .exit)) ⌝ }
+{
+    let wrote = commit_text(
+        line_break,
+        indentation,
+        buf,
+        text,
+        table,
+        break_line_at,
+        final_break,
+        size_given(size),
+    );
+    let answer = wrote.answer;
+    report_put(answer, wrote.serializer.position, values)
 }
 
 // Reads the items of a whole text into words, four an item, as sise_write_calls takes them. The first value is how many items there are.

@@ -19,7 +19,7 @@ use Rattle.sise_layout.proofs.Pieces.{layoutOf, itemBytes}
 use Rattle.sise_layout.proofs.Outcomes.{Outcome, same, adds, ends, outcome}
 use Rattle.sise_layout.proofs.Written.{last-paid, last-lists}
 
-abbrev bytesOf : List Placed → ℕ
+abbrev pub bytesOf : List Placed → ℕ
 bytesOf items = atomBytes (itemsOf items) + 2 * lists (itemsOf items)
 
 item-counted : (i : Item) (is : List Item) → atomBytes (i ∷ is) + 2 * lists (i ∷ is) ≡ itemBytes i + (atomBytes is + 2 * lists is)
@@ -29,11 +29,11 @@ item-counted listStart is = omega arith
 item-counted listEnd is = omega arith
 
 -- the bytes of a text from w on, by the counts before and after; a list that is open is short of its list end
-abbrev Counted : Style → Serializer → List Placed → List ℕ → Serializer → Type 0
+abbrev pub Counted : Style → Serializer → List Placed → List ℕ → Serializer → Type 0
 Counted s w items text v = length text + layoutOf s w + v .lists ≡ bytesOf items + layoutOf s v + w .lists
 
 module _ (s : Style) (room : ℕ) where
-  abbrev Counts : List Call → Type 0
+  abbrev pub Counts : List Call → Type 0
   Counts cs = (w : Serializer) → Sound w → Counted s w (writes s room w cs .items) (writes s room w cs .text) (writes s room w cs .last)
 
   count-step : (cs : List Call) → Counts cs → (w : Serializer) → Sound w → (c : Call) (r : Written) → Outcome s room w c r
@@ -44,7 +44,7 @@ module _ (s : Style) (room : ℕ) where
   count-step cs h w i c r (ends wished f x e) =
       rw (e, length-append, length-append) (omega (arith, last-paid s w wished, last-lists s w wished, h (last s w wished .after) x))
 
-  counts : (cs : List Call) → Counts cs
+  pub counts : (cs : List Call) → Counts cs
   unfolding writes atomBytes lists
   counts [] w i = omega arith
   counts (c ∷ cs) w i = count-step cs (counts cs) w i c (step s room w c) (outcome s room w i c)

@@ -20,7 +20,7 @@ use Rattle.sise_tree.specs.Tree.{Node, atom, list}
 use Rattle.sise_tree.specs.Answers.{answered}
 use Rattle.sise_tree_writer.specs.Answers.{putAs}
 use Rattle.sise_tree_writer.specs.SerializeTree.{nodeCalls, rowCalls, treeCalls, fits, Writes, firstOffset, written, writeTree, serializeTree, DoesMeasure}
-use Rattle.sise_tree_writer.specs.Writing.{textCalls, MeasuresTree}
+use Rattle.sise_tree_writer.specs.Writing.{textCalls, PlansTree}
 use Rattle.sise_tree_writer.specs.Planning.{Plans}
 use Rattle.sise_tree_writer.specs.Walking.{after, firstAnswer}
 use Rattle.sise_tree_writer.specs.declared.serialize.PutTree.the-variants.{At, NoRoom}
@@ -90,7 +90,7 @@ some-answer s b w text t n y =
     let (o, e, more) = fits-first s (length b) w c cs (rw z at y) in
     (o, ap (λ (l : List Call). firstOffset (run s b w l .answers)) z ∙ first-offset s b w (c ∷ cs) e)
 
-module _ (s : Style) (room : ℕ) (w : Serializer) (text words : List ℕ) (t : ℕ) {r : TreeWrote} (measured : MeasuresTree s room w text words t r) where
+module _ (s : Style) (room : ℕ) (w : Serializer) (text words : List ℕ) (t : ℕ) {r : TreeWrote} (measured : PlansTree s room w text words t r) where
   abbrev block : List ℕ
   block = replicate room 0
 

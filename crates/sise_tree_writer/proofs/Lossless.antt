@@ -11,8 +11,11 @@ use Rattle.sise_tree.specs.Answers.{Answer, answered, refused}
 use Rattle.sise_tree_writer.specs.Answers.{putAs}
 use Rattle.sise_tree_writer.specs.SerializeTree.{Writes, DoesWrite, DoesMeasure}
 use Rattle.sise_tree_writer.specs.declared.serialize.PutTree.{PutTree}
-use Rattle.sise_tree_writer.specs.declared.serialize.PutTree.the-variants.{At, TextTooLong, UnsoundRecord, NotATree, InvalidAtom, WritingFinished, NoRoom}
+use Rattle.sise_tree_writer.specs.declared.serialize.PutTree.the-variants.{At, TextTooLong, UnsoundRecord, NotATree, InvalidAtom, WritingFinished, NoRoom, SizeChanged}
 use Rattle.sise_tree_writer.specs.declared.serialize.TreeWrote.{TreeWrote}
+use Rattle.sise_tree_writer.specs.Sizes.{Enquiry, adds, refuses, measuredAs}
+use Rattle.sise_tree_writer.specs.declared.size.Measured.{Measured}
+use Rattle.sise_tree_writer.specs.declared.size.Measured.the-variants as size
 
 -- the answer that has this meaning
 abbrev putOf : Answer → PutTree
@@ -22,7 +25,8 @@ putOf (refused e) =
     cond (eqb (e .number) 11) UnsoundRecord (
     cond (eqb (e .number) 15) NotATree (
     cond (eqb (e .number) 17) InvalidAtom (
-    cond (eqb (e .number) 19) WritingFinished NoRoom))))
+    cond (eqb (e .number) 19) WritingFinished (
+    cond (eqb (e .number) 22) NoRoom SizeChanged)))))
 
 put-back : (a : PutTree) → putOf (putAs a) ≡ a
 put-back (At o) = refl
@@ -32,6 +36,7 @@ put-back NotATree = refl
 put-back InvalidAtom = refl
 put-back WritingFinished = refl
 put-back NoRoom = refl
+put-back SizeChanged = refl
 
 pub put-lossless : (a b : PutTree) → putAs a ≡ putAs b → a ≡ b
 put-lossless a b d = sym (put-back a) ∙ ap putOf d ∙ put-back b
@@ -51,3 +56,25 @@ write-lossless {d} h k = (
   measure-lossless {d = d} (record { serializer = h .serializer; answer = h .answer }) (record { serializer = k .serializer; answer = k .answer }),
   h .buffer ∙ sym (k .buffer),
 )
+
+-- and what an enquiry answers loses nothing
+abbrev measuredOf : Enquiry → Measured
+measuredOf (adds bytes breaks indents) = size.Size bytes breaks indents
+measuredOf (refuses n) =
+    cond (eqb n 13) size.TextTooLong (
+    cond (eqb n 11) size.UnsoundRecord (
+    cond (eqb n 15) size.NotATree (
+    cond (eqb n 17) size.InvalidAtom (
+    cond (eqb n 19) size.WritingFinished size.NoRoom))))
+
+measured-back : (a : Measured) → measuredOf (measuredAs a) ≡ a
+measured-back (size.Size bytes breaks indents) = refl
+measured-back size.TextTooLong = refl
+measured-back size.UnsoundRecord = refl
+measured-back size.NotATree = refl
+measured-back size.InvalidAtom = refl
+measured-back size.WritingFinished = refl
+measured-back size.NoRoom = refl
+
+pub size-lossless : (a b : Measured) → measuredAs a ≡ measuredAs b → a ≡ b
+size-lossless a b d = sym (measured-back a) ∙ ap measuredOf d ∙ measured-back b

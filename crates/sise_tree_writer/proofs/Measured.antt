@@ -33,7 +33,7 @@ use Rattle.sise_tree_writer.specs.Walking.{after, firstAnswer, Finds, al
 use Rattle.sise_tree_writer.specs.declared.measure.Walked.{Walked}
 use Rattle.sise_tree_writer.specs.declared.measure.Walked.the-variants.{Fits, Refused}
 use Rattle.sise_tree_writer.specs.declared.serialize.PutTree.{PutTree}
-use Rattle.sise_tree_writer.specs.declared.serialize.PutTree.the-variants.{At, TextTooLong, UnsoundRecord, NotATree, InvalidAtom, WritingFinished, NoRoom}
+use Rattle.sise_tree_writer.specs.declared.serialize.PutTree.the-variants.{At, TextTooLong, UnsoundRecord, NotATree, InvalidAtom, WritingFinished, NoRoom, SizeChanged}
 use Rattle.sise_tree_writer.specs.declared.serialize.TreeWrote.{TreeWrote}
 use Rattle.sise_tree_writer.proofs.serialize.PutTree as puts
 use Rattle.sise_tree_writer.proofs.CallLaws.{fits-first, run-after}
@@ -43,14 +43,15 @@ pub no-answer : {A : Type 0} {n o : ℕ} → refusedWith n ≡ answered o → A
 no-answer {n = n} {o} e = let z : _≡_ {A = ℕ} 0 1 = cc in absurd (omega arith)
 
 -- an answer that is no offset
-pub not-at : (p : PutTree) → OneOf (1 ∷ 2 ∷ 3 ∷ 4 ∷ 5 ∷ 6 ∷ []) (tagOf puts.the-type p) → (o : ℕ) → putAs p ≡ answered o → ⊥
-not-at (At x) k o e = no-zero 0 (1 ∷ 2 ∷ 3 ∷ 4 ∷ 5 ∷ []) k
+pub not-at : (p : PutTree) → OneOf (1 ∷ 2 ∷ 3 ∷ 4 ∷ 5 ∷ 6 ∷ 7 ∷ []) (tagOf puts.the-type p) → (o : ℕ) → putAs p ≡ answered o → ⊥
+not-at (At x) k o e = no-zero 0 (1 ∷ 2 ∷ 3 ∷ 4 ∷ 5 ∷ 6 ∷ []) k
 not-at TextTooLong k o e = no-answer e
 not-at UnsoundRecord k o e = no-answer e
 not-at NotATree k o e = no-answer e
 not-at InvalidAtom k o e = no-answer e
 not-at WritingFinished k o e = no-answer e
 not-at NoRoom k o e = no-answer e
+not-at SizeChanged k o e = no-answer e
 
 -- a refusal leaves the record; whatever the buffer is
 pub refused-measures : (b : List ℕ) (w : Serializer) {n : ℕ} (a : PutTree) {r : TreeWrote} → putAs a ≡ refusedWith n → r ≡ record { serializer = w; answer = a }

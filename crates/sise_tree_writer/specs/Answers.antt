@@ -5,7 +5,7 @@ use Rattle.sise_tree.specs.declared.tree.Held.{Held}
 use Rattle.sise_tree.specs.declared.tree.Held.the-variants as held
 use Rattle.sise_tree.specs.declared.tree.Held.the-variants.{Tree, NoAtom}
 use Rattle.sise_tree_writer.specs.declared.serialize.PutTree.{PutTree}
-use Rattle.sise_tree_writer.specs.declared.serialize.PutTree.the-variants.{At, TextTooLong, UnsoundRecord, NotATree, InvalidAtom, WritingFinished, NoRoom}
+use Rattle.sise_tree_writer.specs.declared.serialize.PutTree.the-variants.{At, TextTooLong, UnsoundRecord, NotATree, InvalidAtom, WritingFinished, NoRoom, SizeChanged}
 
 -- the numbers and values of each case
 abbrev pub putAs : PutTree → Answer
@@ -16,6 +16,7 @@ putAs NotATree = refusedWith 15
 putAs InvalidAtom = refusedWith 17
 putAs WritingFinished = refusedWith 19
 putAs NoRoom = refusedWith 22
+putAs SizeChanged = refusedWith 23
 
 -- the refusal of what a table holds that is no tree of atoms: 15 or 17
 abbrev pub refusalOf : Held → PutTree

@@ -3,7 +3,9 @@ pub mod SerializeTree
 pub mod Alike
 pub mod Rows
 pub mod Writing
+pub mod Sizes
 pub mod House
 pub mod Planning
 pub mod Walking
 pub mod WriteExamples
+pub mod SizeExamples

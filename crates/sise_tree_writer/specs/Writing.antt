@@ -11,6 +11,7 @@ use Rattle.sise_serializer.specs.declared.serializer.Serializer.{Serializer}
 use Rattle.sise_serializer.specs.Calls.{Call, finishCall}
 use Rattle.sise_tree.specs.Tree.{Node, atomsHold}
 use Rattle.sise_tree.specs.Decision.{decide, isSome}
+use Rattle.sise_tree.specs.Answers.{answered}
 use Rattle.sise_tree_writer.specs.SerializeTree.{treeCalls, Writes, writeNode, writeTree, serializeTree, DoesMeasure}
 use Rattle.sise_tree_writer.specs.declared.serialize.TreeWrote.{TreeWrote}
 
@@ -33,9 +34,13 @@ MeasuresNode s room w text words t r =
     (b : List ℕ) → length b ≡ room → DoesMeasure (writeNode s b w text (treeCalls text t) (decide text words)) r
 
 -- and from its first check on
-abbrev pub MeasuresTree : Style → ℕ → Serializer → List ℕ → List ℕ → ℕ → TreeWrote → Type 0
-MeasuresTree s room w text words t r = (b : List ℕ) → length b ≡ room → DoesMeasure (serializeTree s b w text words t) r
+abbrev pub PlansTree : Style → ℕ → Serializer → List ℕ → List ℕ → ℕ → TreeWrote → Type 0
+PlansTree s room w text words t r = (b : List ℕ) → length b ≡ room → DoesMeasure (serializeTree s b w text words t) r
 
--- a whole text measured
-abbrev pub MeasuresText : Style → ℕ → List ℕ → List ℕ → ℕ → Bool → TreeWrote → Type 0
-MeasuresText s room text words t wished r = (b : List ℕ) → length b ≡ room → DoesMeasure (writeText s b text words t wished) r
+-- a whole text planned
+abbrev pub PlansText : Style → ℕ → List ℕ → List ℕ → ℕ → Bool → TreeWrote → Type 0
+PlansText s room text words t wished r = (b : List ℕ) → length b ≡ room → DoesMeasure (writeText s b text words t wished) r
+
+-- d is no refusal
+abbrev pub IsWritten : Writes → Type 0
+IsWritten d = (o : ℕ) × (d .answer ≡ answered o)

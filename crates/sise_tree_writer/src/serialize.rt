@@ -2,6 +2,9 @@
 // buffer, and another one writes.
 use crate::measure::Walked;
 use crate::measure::measure_nodes;
+use crate::size::Measured;
+use crate::size::is_size;
+use crate::size::measured_of;
 use crate::write::write_nodes;
 use sise_serializer::Phase;
 use sise_serializer::Serializer;
@@ -14,9 +17,10 @@ ghost use Rattle.sise_serializer.specs.Serializer.{style, isSound};
 ghost use Rattle.sise_tree.specs.Answers.{numberOf};
 ghost use Rattle.sise_tree_writer.specs.Answers.{putAs, refusalOf};
 ghost use Rattle.sise_tree_writer.specs.SerializeTree.{isOver, serializeTree, DoesWrite};
-ghost use Rattle.sise_tree_writer.specs.Writing.{Checked, MeasuresNode, MeasuresTree};
+ghost use Rattle.sise_tree_writer.specs.Writing.{Checked, MeasuresNode, PlansTree};
+ghost use Rattle.sise_tree_writer.specs.Sizes.{MeasuresTree, CommitsTree};
 
-// What serialize_tree answers: the offset of the first item, or a refusal.
+// What a call that writes a tree answers: the offset of the first item, or a refusal. Only a commit answers SizeChanged.
 pub enum PutTree {
     At(usize),
     TextTooLong,
@@ -25,9 +29,10 @@ pub enum PutTree {
     InvalidAtom,
     WritingFinished,
     NoRoom,
+    SizeChanged,
 }
 
-// What serialize_tree hands back.
+// What it hands back.
 pub struct TreeWrote {
     pub serializer: Serializer,
     pub answer: PutTree,
@@ -46,6 +51,7 @@ impl PutTree {
             PutTree::InvalidAtom => 17,
             PutTree::WritingFinished => 19,
             PutTree::NoRoom => 22,
+            PutTree::SizeChanged => 23,
         }
     }
 }
@@ -74,7 +80,7 @@ fn refusal_of(held: Held) -> PutTree
 }
 
 // A refusal leaves the record.
-fn refused(serializer: Serializer, answer: PutTree) -> TreeWrote
+pub(crate) fn refused(serializer: Serializer, answer: PutTree) -> TreeWrote
     ensures { λ r. ⌜ r ≡ record { serializer = serializer; answer = answer } ⌝ }
 {
     TreeWrote { serializer, answer }
@@ -114,7 +120,7 @@ fn measure_checked(
 }
 
 // What serialize_tree answers with a buffer of `room` bytes, and the record that it leaves. Nothing is written.
-pub(crate) fn measure_tree(
+pub(crate) fn plan_tree(
     serializer: Serializer,
     line_break: &[u8],
     indentation: &[u8],
@@ -123,7 +129,7 @@ pub(crate) fn measure_tree(
     table: &[u32],
     break_line_at: u64,
 ) -> TreeWrote
-    ensures { λ r. ⌜ MeasuresTree (style (now («line_break» .entry)) (now (indentation .entry))) room serializer (now (text .entry)) (now (table .entry)) «break_line_at» r ⌝ }
+    ensures { λ r. ⌜ PlansTree (style (now («line_break» .entry)) (now (indentation .entry))) room serializer (now (text .entry)) (now (table .entry)) «break_line_at» r ⌝ }
 {
     if text.len() > LONGEST {
         return refused(serializer, PutTree::TextTooLong);
@@ -150,6 +156,72 @@ pub(crate) fn measure_tree(
     )
 }
 
+// Size first: what serialize_tree would add with a buffer of `room` bytes, or its refusal. Nothing is written.
+pub fn measure_tree(
+    serializer: Serializer,
+    line_break: &[u8],
+    indentation: &[u8],
+    room: usize,
+    text: &[u8],
+    table: &[u32],
+    break_line_at: u64,
+) -> Measured
+    ensures { λ r. ⌜ MeasuresTree (style (now («line_break» .entry)) (now (indentation .entry))) room serializer (now (text .entry)) (now (table .entry)) «break_line_at» r ⌝ }
+{
+    let planned = plan_tree(
+        serializer,
+        line_break,
+        indentation,
+        room,
+        text,
+        table,
+        break_line_at,
+    );
+    measured_of(serializer, planned)
+}
+
+// Then the text: writes the tree as serialize_tree does, if `measured` is still what measure_tree answers with a buffer of this length. Where document 01
+// refuses the tree, so does the commit; where another size is due, or a refusal was handed over, it answers SizeChanged.
+pub fn commit_tree(
+    serializer: Serializer,
+    line_break: &[u8],
+    indentation: &[u8],
+    buf: &mut [u8],
+    text: &[u8],
+    table: &[u32],
+    break_line_at: u64,
+    measured: Measured,
+) -> TreeWrote
+    ensures { λ r. ⌜ CommitsTree (style (now («line_break» .entry)) (now (indentation .entry))) (now (buf .entry)) serializer (now (text .entry)) (now (table .entry)) «break_line_at» measured r (now (buf .exit)) ⌝ }
+{
+    let planned = plan_tree(
+        serializer,
+        line_break,
+        indentation,
+        buf.len(),
+        text,
+        table,
+        break_line_at,
+    );
+    let answer = planned.answer;
+    let PutTree::At(_) = answer else {
+        return planned;
+    };
+    if !is_size(measured, serializer, planned.serializer) {
+        return refused(serializer, PutTree::SizeChanged);
+    }
+    write_nodes(
+        serializer,
+        line_break,
+        indentation,
+        buf,
+        text,
+        table,
+        break_line_at,
+    );
+    planned
+}
+
 // Writes the tree that the table holds over `text`. The first child of each list, if an atom, stays on the line of the `(`, and everything else goes on
 // a new line if the line is at least `break_line_at` bytes long. A refusal writes nothing and leaves the record.
 pub fn serialize_tree(
@@ -163,7 +235,7 @@ pub fn serialize_tree(
 ) -> TreeWrote
     ensures { λ r. ⌜ DoesWrite (serializeTree (style (now («line_break» .entry)) (now (indentation .entry))) (now (buf .entry)) serializer (now (text .entry)) (now (table .entry)) «break_line_at») r (now (buf .exit)) ⌝ }
 {
-    let measured = measure_tree(
+    let planned = plan_tree(
         serializer,
         line_break,
         indentation,
@@ -172,9 +244,9 @@ pub fn serialize_tree(
         table,
         break_line_at,
     );
-    let answer = measured.answer;
+    let answer = planned.answer;
     let PutTree::At(_) = answer else {
-        return measured;
+        return planned;
     };
     write_nodes(
         serializer,
@@ -185,5 +257,5 @@ pub fn serialize_tree(
         table,
         break_line_at,
     );
-    measured
+    planned
 }

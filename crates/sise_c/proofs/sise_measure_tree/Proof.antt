@@ -1,8 +1,7 @@
--- `sise_measure_tree` meets its contract: it reports what measure_text promises, and of the record the position alone.
+-- `sise_measure_tree` meets its contract: it reports what measure_text promises.
 -- Assumes nothing.
-use mathlib.Core.Path.{refl}
 use borrow.Author.Needs.{needs}
-use Rattle.sise_c.proofs.Reporting.{reports-measured}
+use Rattle.sise_c.proofs.Reporting.{enquiry-by}
 use Rattle.sise_c.proofs.sise_measure_tree.Statement.{statement}
 use Rattle.sise_c.proofs.sise_measure_tree.Tie as tie
 
@@ -11,6 +10,5 @@ sise-measure-tree-spec =
     tie.close
     (tie.spec
     (λ c κs. search needs)  -- measure-text-requires
-    (λ c κs. search needs)  -- report-put-requires
-    -- returns
-    (λ c b e. let w = c .before .before in reports-measured _ b _ _ _ refl (c .report-put .ensures) (w .measure-text .ensures b e)))
+    (λ c κs. search needs)  -- report-measured-requires
+    (λ c b long. enquiry-by (c .before .before .measure-text .ensures b long) (c .report-measured .ensures)))  -- returns

@@ -1,6 +1,5 @@
 -- `sise_serialize_tree` meets its contract: it reports what write_text promises, and of the record the position alone.
 -- Assumes nothing.
-use mathlib.Core.Path.{refl}
 use borrow.Author.Needs.{needs}
 use Rattle.sise_c.proofs.Reporting.{reports-written}
 use Rattle.sise_c.proofs.sise_serialize_tree.Statement.{statement}
@@ -13,5 +12,4 @@ sise-serialize-tree-spec =
     (λ c κs. search needs)  -- write-text-requires
     (λ c κs. search needs)  -- report-put-requires
     (λ c. search needs)  -- same-length
-    -- returns
-    (λ c. let w = c .before .before .before .before in reports-written _ _ _ _ _ refl (c .report-put .ensures) (w .write-text .ensures)))
+    (λ c. let w = c .before .before .before .before in reports-written (w .write-text .ensures) (c .report-put .ensures)))  -- returns

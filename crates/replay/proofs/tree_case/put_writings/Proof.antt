@@ -19,4 +19,8 @@ put-writings-spec =
     (λ c. search needs)  -- array-borrow-prefix-house
     (λ c. sym (length-take-le _ _ (omega arith)))  -- slice-aggregate-put-houses
     (λ c κs. search needs)  -- put-houses-requires
+    (λ c κs. search needs)  -- memory-requires-3
+    (λ c. search needs)  -- array-borrow-prefix-sized
+    (λ c. sym (length-take-le _ _ (omega arith)))  -- slice-aggregate-put-sizes
+    (λ c κs. search needs)  -- put-sizes-requires
     (λ c. search needs))  -- returns

@@ -1,11 +1,11 @@
--- The tree is measured, and then the finish behind it.
+-- The plan says what one call would do in each buffer of so many bytes, and the enquiry is the size of that.
 -- Assumes nothing.
-use mathlib.Core.Path.{refl, ap}
-use Rattle.sise_serializer.specs.Serializer.{style, answerAs, freshSerializer}
-use Rattle.sise_tree_writer.specs.Answers.{putAs}
-use Rattle.sise_tree_writer.proofs.Measured.{not-at}
-use Rattle.sise_tree_writer.proofs.Walked.{not-put}
-use Rattle.sise_tree_writer.proofs.Finishing.{tree-sound, text-none, text-full, text-fits}
+use Prim.Native.Nat.{ℕ}
+use mathlib.Core.Path.{_∙_}
+use lib.ListN.{replicate, length-replicate}
+use Rattle.sise_serializer.specs.Serializer.{style, freshSerializer}
+use Rattle.sise_tree_writer.specs.Writing.{textCalls}
+use Rattle.sise_tree_writer.proofs.Sizes.{can-measure, planned-enquiry}
 use borrow.Author.Needs.{needs}
 use Rattle.sise_tree_writer.proofs.whole.measure_text.Statement.{statement}
 use Rattle.sise_tree_writer.proofs.whole.measure_text.Tie as tie
@@ -14,11 +14,7 @@ pub measure-text-spec : {M : Type 1} → statement M
 measure-text-spec =
     tie.close
     (tie.spec
+    (λ c κs. search needs)  -- plan-text-requires
     (λ c κs. search needs)  -- new-requires
-    (λ c κs. search needs)  -- measure-tree-requires
-    (λ c. search needs)  -- enum-known-answer
-    (λ c. let a = c .before .before .before .before .before .before .before .args in let m = rw (c .before .before .new .ensures) at (c .before .measure-tree .ensures) in text-none (style (a .line-break .now) (a .indentation .now)) (a .room) freshSerializer (a .text .now) (a .table .now) (a .break-line-at) m (a .final-break) (λ o e. not-at (c .before .measure-tree .result .answer) (c .match .keys2) o e))  -- returns
-    (λ c κs. let a = c .before .before .before .before .before .before .before .before .before .before .args in let m = rw (c .before .before .before .before .before .new .ensures) at (c .before .before .before .before .measure-tree .ensures) in tree-sound (style (a .line-break .now) (a .indentation .now)) (a .room) freshSerializer (a .text .now) (a .table .now) (a .break-line-at) m (ap putAs (c .before .before .answer .given .1)))  -- plan-finish-requires
-    (λ c. search needs)  -- enum-told
-    (λ c. let a = c .before .before .before .before .before .before .before .before .before .before .before .before .args in let m = rw (c .before .before .before .before .before .before .before .new .ensures) at (c .before .before .before .before .before .before .measure-tree .ensures) in let (n, e) = not-put (c .before .plan-finish .result .answer) (c .match2 .keys2) in text-full (style (a .line-break .now) (a .indentation .now)) (a .room) freshSerializer (a .text .now) (a .table .now) (a .break-line-at) m (ap putAs (c .before .before .before .before .answer .given .1)) (a .final-break) (c .before .plan-finish .ensures) e (rw (c .before .before .before .before .before .before .before .new .ensures) refl))  -- returns-2
-    (λ c. let a = c .before .before .before .before .before .before .before .before .before .before .before .before .before .before .args in let m = rw (c .before .before .before .before .before .before .before .before .before .new .ensures) at (c .before .before .before .before .before .before .before .before .measure-tree .ensures) in text-fits (style (a .line-break .now) (a .indentation .now)) (a .room) freshSerializer (a .text .now) (a .table .now) (a .break-line-at) m (ap putAs (c .before .before .before .before .before .before .answer .given .1)) (a .final-break) (c .before .before .before .plan-finish .ensures) (ap answerAs (c .before .enum-told .given .1))))  -- returns-3
+    (λ c κs. let a = c .before .before .before .before .before .before .args in rw (c .new .ensures) (can-measure (style (a .line-break .now) (a .indentation .now)) (replicate (a .room) 0) freshSerializer (a .text .now) (a .table .now) (textCalls (a .text .now) (a .break-line-at) (a .final-break)) (c .before .plan-text .ensures (replicate (a .room) 0) (length-replicate {A = ℕ} (a .room) 0))))  -- measured-of-requires
+    (λ c. λ b long. (rw (c .before .new .ensures) at (c .measured-of .ensures)) ∙ planned-enquiry freshSerializer (c .before .before .plan-text .ensures b long)))  -- returns
