@@ -1,1 +1,5 @@
-
+pub mod Trees
+pub mod Parsed
+pub mod House
+pub mod Final
+pub mod Returned

@@ -24,18 +24,18 @@ pub data Reprint : Type 0 where
   refusedBy : Refusal → Reprint
 
 -- after the house call, which left d: "the buffer's part up to the position"
-abbrev wrote : ℕ → Writes → Answer → Reprint
-wrote k d (answered o) = reprinted k (take (d .serializer .position) (d .buffer))
-wrote k d (refused e) = refusedBy e
+abbrev pub afterHouse : ℕ → Writes → Answer → Reprint
+afterHouse k d (answered o) = reprinted k (take (d .serializer .position) (d .buffer))
+afterHouse k d (refused e) = refusedBy e
 
 -- after parse_text, which left the words: the house call with them, if there was no refusal
-abbrev read : ℕ → List ℕ → List ℕ → List ℕ → Answer → Reprint
-read t text buffer words (answered k) = let d = houseAt t buffer text words in wrote k d (d .answer)
-read t text buffer words (refused e) = refusedBy e
+abbrev pub afterParse : ℕ → List ℕ → List ℕ → List ℕ → Answer → Reprint
+afterParse t text buffer words (answered k) = let d = houseAt t buffer text words in afterHouse k d (d .answer)
+afterParse t text buffer words (refused e) = refusedBy e
 
 -- the reprint of a text at the threshold t: parse_text into a table that has these words, then the house call into a buffer that has these bytes
 unfoldable pub reprint : ℕ → List ℕ → List ℕ → List ℕ → Reprint
-reprint t text words buffer = let p = parseText text words in read t text buffer (p .words) (p .answer)
+reprint t text words buffer = let p = parseText text words in afterParse t text buffer (p .words) (p .answer)
 
 -- "every text that is read to its end as one node ... and whose tree and reprint fit": 13, 14 and 22 do not stand against it
 pub record Fits (t : ℕ) (text words buffer : List ℕ) {tree : Tree} (r : ReadsAs text tree) : Type 0 where
