@@ -1,107 +1,47 @@
 -- Request 2.4: reprinting is final, and two texts reprint alike exactly when their trees are equal. What is written depends on the threshold and the tree of
--- bytes alone, and is read as that tree; so the second reprint writes what the first wrote.
+-- bytes alone, and is read as that tree; so the second reprint writes what the first wrote. First by the definitions of the two calls, then of what a program
+-- got from them.
 -- Assumes nothing.
 use Prim.Native.Nat.{ℕ, _/_, _≤_}
 use native.Mathlib.Omega.{arith}
-use mathlib.Core.Path.{_≡_, refl, sym, ap, _∙_, subst}
-use mathlib.Core.Bool.{true}
+use mathlib.Core.Path.{_≡_, refl, sym, ap, ap₂, _∙_, subst}
 use mathlib.Core.List.{List}
-use lib.ListN.{length, take}
-use Rattle.sise_parser.specs.Refusals.{Refusal}
-use Rattle.sise_serializer.specs.Serializer.{freshSerializer}
+use lib.ListN.{length, length-take}
 use Rattle.sise_serializer.specs.Calls.{writing}
-use Rattle.sise_layout.specs.Texts.{textOf}
+use Rattle.sise_serializer.specs.declared.serializer.Serializer.{Serializer}
+use Rattle.sise_layout.specs.Texts as layout
 use Rattle.sise_tree.specs.Tree.{size}
-use Rattle.sise_tree.specs.Answers.{Answer, answered, refused}
-use Rattle.sise_tree.specs.ParseTree.{filledWith}
-use Rattle.sise_tree.specs.ParseText.{ParsesText, parseText}
-use Rattle.sise_tree_writer.specs.SerializeTree.{fits, Writes}
-use Rattle.sise_tree_writer.specs.House.{houseStyle, houseAt}
+use Rattle.sise_tree.specs.declared.parse.ParsedTree.{ParsedTree}
+use Rattle.sise_tree.specs.declared.parse.ParsedTree.the-variants.{Nodes}
+use Rattle.sise_tree_writer.specs.House.{houseStyle}
 use Rattle.sise_tree_writer.specs.Alike.{Tree, treeOf, ReadsAs}
+use Rattle.sise_tree_writer.specs.declared.serialize.PutTree.{PutTree}
+use Rattle.sise_tree_writer.specs.declared.serialize.PutTree.the-variants.{At}
+use Rattle.sise_tree_writer.specs.declared.serialize.TreeWrote.{TreeWrote}
+use Rattle.sise_tree_writer.proofs.Lossless.{put-lossless}
 use Rattle.sise_reprint.specs.Equal.{Equal}
-use Rattle.sise_reprint.specs.Reprint.{Reprint, reprinted, refusedBy, afterHouse, afterParse, reprint, Fits}
-use Rattle.sise_reprint.proofs.Trees.{nodesIn, wholeCalls, whole-calls, nodes-of, equal-same, same-equal, reads-once}
-use Rattle.sise_reprint.proofs.Parsed.{Parsed, parses-to, was-parsed, parsed-words, parsed-reads}
-use Rattle.sise_reprint.proofs.House.{printing, house-prints, Prints, answered-fits, fits-answer, fits-made, prints-low, prints-again, prints-once, prints-reads}
-
--- ---- a text that was reprinted, by its tree
-
-pub record Reprinted (t : ℕ) (text words buffer : List ℕ) (k : ℕ) (out : List ℕ) : Type 0 where
-  pub parsed : Parsed text words k
-  pub prints : Prints t (treeOf text (parsed .node)) buffer out
-
--- its tree
-abbrev pub tree : {t : ℕ} {text words buffer : List ℕ} {k : ℕ} {out : List ℕ} → Reprinted t text words buffer k out → Tree
-tree {text = text} r = treeOf text (r .parsed .node)
-
-module _ (t : ℕ) (text words buffer : List ℕ) where
-  -- the house call, once parse_text has answered
-  pub after-parse : {k : ℕ} (p : Parsed text words k) → houseAt t buffer text (parseText text words .words) ≡ printing t (treeOf text (p .node)) buffer
-  after-parse p = ap (houseAt t buffer text) (parsed-words p) ∙ house-prints t buffer p
-
-  reprint-by : {k : ℕ} (p : Parsed text words k) → parseText text words .answer ≡ answered k
-      → let d = printing t (treeOf text (p .node)) buffer in reprint t text words buffer ≡ afterHouse k d (d .answer)
-  unfolding reprint
-  reprint-by {k} p e =
-      ap (afterParse t text buffer (parseText text words .words)) e
-      ∙ ap (λ (d : Writes). afterHouse k d (d .answer)) (after-parse p)
-
-  reprint-refused : {e : Refusal} → parseText text words .answer ≡ refused e → reprint t text words buffer ≡ refusedBy e
-  unfolding reprint
-  reprint-refused e = ap (afterParse t text buffer (parseText text words .words)) e
-
-  no-reprint : {A : Type 0} {k : ℕ} {out : List ℕ} {e : Refusal} → refusedBy e ≡ reprinted k out → A
-  no-reprint {k = k} {out} {e} h = let z : _≡_ {A = ℕ} 0 1 = cc in absurd (omega arith)
-
-  pub was-reprinted : {k : ℕ} {out : List ℕ} → reprint t text words buffer ≡ reprinted k out → Reprinted t text words buffer k out
-  was-reprinted {k} {out} h = parsed (parseText text words .answer) refl
-    where
-      written : {m : ℕ} (p : Parsed text words m) → parseText text words .answer ≡ answered m → (a : Answer) → printing t (treeOf text (p .node)) buffer .answer ≡ a
-          → Reprinted t text words buffer k out
-      written {m} p e (answered o) a =
-          let d = printing t (treeOf text (p .node)) buffer in
-          let z : reprinted m (take (d .serializer .position) (d .buffer)) ≡ reprinted k out = sym (ap (afterHouse m d) a) ∙ sym (reprint-by p e) ∙ h in
-          let n : m ≡ k = cc in
-          let s : take (d .serializer .position) (d .buffer) ≡ out = cc in
-          let f = answered-fits t (treeOf text (p .node)) buffer a in
-          let r : Reprinted t text words buffer m out = record {
-            parsed = p;
-            prints = record { fit = f; text = sym s ∙ ap (λ (x : Writes). take (x .serializer .position) (x .buffer)) (fits-made t (treeOf text (p .node)) buffer f) };
-          } in
-          rw n at r
-      written {m} p e (refused f) a =
-          let d = printing t (treeOf text (p .node)) buffer in
-          no-reprint (sym (ap (afterHouse m d) a) ∙ sym (reprint-by p e) ∙ h)
-
-      parsed : (a : Answer) → parseText text words .answer ≡ a → Reprinted t text words buffer k out
-      parsed (answered m) e = let p = was-parsed text words e in written p e (printing t (treeOf text (p .node)) buffer .answer) refl
-      parsed (refused f) e = no-reprint (sym (reprint-refused e) ∙ h)
-
-  pub is-reprinted : {k : ℕ} {out : List ℕ} → Reprinted t text words buffer k out → reprint t text words buffer ≡ reprinted k out
-  is-reprinted {k} {out} r =
-      let p = r .parsed in
-      let x = treeOf text (p .node) in
-      let d = printing t x buffer in
-      let f = r .prints .fit in
-      let (o, a) = fits-answer t x buffer f in
-      let e : parseText text words .answer ≡ answered k =
-          ap (λ (y : ParsesText). y .answer) (parses-to text words (p .short) (p .reads) (p .ends) (p .table)) ∙ ap answered (sym (p .nodes)) in
-      reprint-by p e
-      ∙ ap (afterHouse k d) a
-      ∙ ap (λ (y : Writes). reprinted k (take (y .serializer .position) (y .buffer))) (fits-made t x buffer f)
-      ∙ ap (reprinted k) (sym (r .prints .text))
+use Rattle.sise_reprint.specs.Reprint.{reprinted, reprint, Fits, Calls, textOf}
+use Rattle.sise_reprint.proofs.Trees.{wholeCalls, whole-calls, equal-same, same-equal, reads-once}
+use Rattle.sise_reprint.proofs.Parsed.{parsed-reads}
+use Rattle.sise_reprint.proofs.House.{printing, Prints, prints-measured, prints-once, prints-reads}
+use Rattle.sise_reprint.proofs.Reprinted.{Reprinted, tree, was-reprinted, is-reprinted, reprinted-again}
+use Rattle.sise_reprint.proofs.Returned.{returned-reprint, returns-nodes, returns-record, returns-answer, returns-offset, returns-text}
 
 -- ---- the texts that are reprinted
 
--- "every text that is read to its end as one node ... and whose tree and reprint fit" is
-pub reprint-accepted : (t : ℕ) (text words buffer : List ℕ) {x : Tree} (r : ReadsAs text x) → Fits t text words buffer r
-    → (out : List ℕ) × (reprint t text words buffer ≡ reprinted (size (r .node)) out)
-reprint-accepted t text words buffer r f =
-    let x = treeOf text (r .node) in
-    (textOf (writing houseStyle buffer (wholeCalls t x)), is-reprinted t text words buffer (record {
-      parsed = record { node = r .node; reader = r .reader; reads = r .reads; ends = r .ended; short = f .short; nodes = refl; table = f .table };
-      prints = record { fit = rw (← whole-calls text t (r .node)) (f .room); text = refl };
-    }))
+module _ (t : ℕ) (text words buffer : List ℕ) {x : Tree} (r : ReadsAs text x) (f : Fits t text words buffer r) where
+  abbrev out : List ℕ
+  out = layout.textOf (writing houseStyle buffer (wholeCalls t (treeOf text (r .node))))
+
+  fits-reprinted : Reprinted t text words buffer (size (r .node)) out
+  fits-reprinted = record {
+    parsed = record { node = r .node; reader = r .reader; reads = r .reads; ends = r .ended; short = f .short; nodes = refl; table = f .table };
+    prints = record { fit = rw (← whole-calls text t (r .node)) (f .room); text = refl };
+  }
+
+  -- "every text that is read to its end as one node ... and whose tree and reprint fit" is
+  pub reprint-accepted : reprint t text words buffer ≡ reprinted (size (r .node)) out
+  reprint-accepted = is-reprinted t text words buffer fits-reprinted
 
 -- and no other
 pub reprint-only : (t : ℕ) (text words buffer : List ℕ) {k : ℕ} {out : List ℕ} → reprint t text words buffer ≡ reprinted k out
@@ -111,34 +51,7 @@ reprint-only t text words buffer h =
     let p = r .parsed in
     (treeOf text (p .node), parsed-reads p, record { short = p .short; table = p .table; room = rw (whole-calls text t (p .node)) (r .prints .fit) }, p .nodes)
 
--- ---- the laws
-
--- a reprint's reprint at any threshold is the text's own
-module _ {t t′ : ℕ} {text words buffer : List ℕ} {k : ℕ} {out : List ℕ} (r : Reprinted t text words buffer k out)
-    {words₁ buffer₁ : List ℕ} {k₁ : ℕ} {out₁ : List ℕ} (s : Reprinted t′ text words₁ buffer₁ k₁ out₁)
-    (words′ buffer′ : List ℕ) (nodes : k ≤ length words′ / 4) (room : length out₁ ≤ length buffer′) where
-  again : ReadsAs out (tree r)
-  again = prints-reads t (r .parsed) buffer (r .prints)
-
-  same-tree : tree s ≡ treeOf out (again .node)
-  same-tree = reads-once (parsed-reads (s .parsed)) (parsed-reads (r .parsed)) ∙ sym (again .same)
-
-  same-nodes : k ≡ size (again .node)
-  same-nodes = r .parsed .nodes ∙ nodes-of text (r .parsed .node) ∙ ap nodesIn (sym (again .same)) ∙ sym (nodes-of out (again .node))
-
-  pub reprinted-again : Reprinted t′ out words′ buffer′ k out₁
-  reprinted-again = record {
-    parsed = record {
-      node = again .node;
-      reader = again .reader;
-      reads = again .reads;
-      ends = again .ended;
-      short = prints-low t (tree r) buffer (r .prints);
-      nodes = same-nodes;
-      table = omega (arith, same-nodes);
-    };
-    prints = rw same-tree at (prints-again t′ (tree s) buffer₁ (s .prints) buffer′ room);
-  }
+-- ---- the two laws
 
 -- "reprinting the reprint gives the same bytes": it is accepted with every table that holds the nodes and every buffer that holds the bytes, whatever is in them
 pub reprint-final : (t : ℕ) (text words buffer : List ℕ) {k : ℕ} {out : List ℕ} → reprint t text words buffer ≡ reprinted k out
@@ -173,3 +86,43 @@ reprint-alike t text₁ words₁ buffer₁ text₂ words₂ buffer₂ {out₂ = 
       λ e. same-equal (z₁ ∙ reads-once (subst (λ (o : List ℕ). ReadsAs o (tree r₁)) e y₁) y₂ ∙ sym z₂),
       λ e. prints-once (r₁ .prints) (subst (λ (x : Tree). Prints t x buffer₂ out₂) (sym z₂ ∙ sym (equal-same e) ∙ z₁) (r₂ .prints)),
     )
+
+-- ---- the same of what a program got that made the two calls
+
+-- such a text: parse_text returns its number of nodes, and the house call an offset
+pub returned-accepted : (t : ℕ) (text words buffer : List ℕ) {x : Tree} (r : ReadsAs text x) → Fits t text words buffer r
+    → {parsed : ParsedTree} {table : List ℕ} {wrote : TreeWrote} {now : List ℕ} → Calls t text words buffer parsed table wrote now
+    → (parsed ≡ Nodes (size (r .node))) × ((o : ℕ) × (wrote .answer ≡ At o))
+returned-accepted t text words buffer r f c = let h = fits-reprinted t text words buffer r f in (returns-nodes c h, returns-offset c h)
+
+-- the calls made once more on the text that was written, with any table that holds the nodes and any buffer that holds the bytes: the same number of nodes,
+-- the same answer and record, and the same bytes
+pub returned-final : {t : ℕ} {text words buffer : List ℕ} {k o : ℕ} {table : List ℕ} {wrote : TreeWrote} {now : List ℕ}
+    → Calls t text words buffer (Nodes k) table wrote now → wrote .answer ≡ At o
+    → {words′ buffer′ : List ℕ} {parsed′ : ParsedTree} {table′ : List ℕ} {wrote′ : TreeWrote} {now′ : List ℕ}
+    → Calls t (textOf wrote now) words′ buffer′ parsed′ table′ wrote′ now′ → k ≤ length words′ / 4 → wrote .serializer .position ≤ length buffer′
+    → (parsed′ ≡ Nodes k) × (wrote′ ≡ wrote) × (textOf wrote′ now′ ≡ textOf wrote now)
+returned-final {t} {text} {words} {buffer} {k} {o} {table} {wrote} {now} c w {words′} {buffer′} {parsed′} {table′} {wrote′} {now′} c′ nodes room =
+    let out = textOf wrote now in
+    let r = was-reprinted t text words buffer (returned-reprint c refl w) in
+    let held : length out ≤ length buffer′ = omega (arith, length-take (wrote .serializer .position) now) in
+    let r′ = reprinted-again r r words′ buffer′ nodes held in
+    let one : tree r′ ≡ tree r = reads-once (parsed-reads (r′ .parsed)) (prints-reads t (r .parsed) buffer (r .prints)) in
+    let (record-same, answer-same) = prints-measured t (tree r) buffer (r .prints) buffer′ held in
+    let serializer : wrote′ .serializer ≡ wrote .serializer =
+        returns-record c′ r′ ∙ ap (λ (x : Tree). printing t x buffer′ .serializer) one ∙ record-same ∙ sym (returns-record c r) in
+    let answer : wrote′ .answer ≡ wrote .answer =
+        put-lossless (wrote′ .answer) (wrote .answer) (returns-answer c′ r′ ∙ ap (λ (x : Tree). printing t x buffer′ .answer) one ∙ answer-same ∙ sym (returns-answer c r)) in
+    (returns-nodes c′ r′, ap₂ (λ (x : Serializer) (y : PutTree). wroteWith x y) serializer answer, returns-text c′ r′)
+  where
+    wroteWith : Serializer → PutTree → TreeWrote
+    wroteWith x y = record { serializer = x; answer = y }
+
+-- two programs, each with a text, a table and a buffer of its own: they wrote the same bytes exactly if their trees are equal
+pub returned-alike : {t : ℕ}
+    {text₁ words₁ buffer₁ table₁ now₁ text₂ words₂ buffer₂ table₂ now₂ : List ℕ} {k₁ o₁ k₂ o₂ : ℕ} {wrote₁ wrote₂ : TreeWrote} {x₁ x₂ : Tree}
+    → ReadsAs text₁ x₁ → Calls t text₁ words₁ buffer₁ (Nodes k₁) table₁ wrote₁ now₁ → wrote₁ .answer ≡ At o₁
+    → ReadsAs text₂ x₂ → Calls t text₂ words₂ buffer₂ (Nodes k₂) table₂ wrote₂ now₂ → wrote₂ .answer ≡ At o₂
+    → (textOf wrote₁ now₁ ≡ textOf wrote₂ now₂ → Equal x₁ x₂) × (Equal x₁ x₂ → textOf wrote₁ now₁ ≡ textOf wrote₂ now₂)
+returned-alike {t} {text₁} {words₁} {buffer₁} {text₂ = text₂} {words₂ = words₂} {buffer₂ = buffer₂} a₁ c₁ w₁ a₂ c₂ w₂ =
+    reprint-alike t text₁ words₁ buffer₁ text₂ words₂ buffer₂ a₁ (returned-reprint c₁ refl w₁) a₂ (returned-reprint c₂ refl w₂)

@@ -1,5 +1,6 @@
 pub mod Trees
 pub mod Parsed
 pub mod House
-pub mod Final
+pub mod Reprinted
 pub mod Returned
+pub mod Final
