@@ -4,3 +4,4 @@ pub mod House
 pub mod Reprinted
 pub mod Returned
 pub mod Final
+pub mod Instances
