@@ -81,8 +81,7 @@ reprint-alike t text₁ words₁ buffer₁ text₂ words₂ buffer₂ {out₂ = 
     let y₁ = prints-reads t (r₁ .parsed) buffer₁ (r₁ .prints) in
     let y₂ = prints-reads t (r₂ .parsed) buffer₂ (r₂ .prints) in
     let z₁ = reads-once a₁ (parsed-reads (r₁ .parsed)) in
-    let z₂ = reads-once a₂ (parsed-reads (r₂ .parsed)) in
-    (
+    let z₂ = reads-once a₂ (parsed-reads (r₂ .parsed)) in (
       λ e. same-equal (z₁ ∙ reads-once (subst (λ (o : List ℕ). ReadsAs o (tree r₁)) e y₁) y₂ ∙ sym z₂),
       λ e. prints-once (r₁ .prints) (subst (λ (x : Tree). Prints t x buffer₂ out₂) (sym z₂ ∙ sym (equal-same e) ∙ z₁) (r₂ .prints)),
     )
@@ -110,9 +109,9 @@ returned-final {t} {text} {words} {buffer} {k} {o} {table} {wrote} {now} c w {wo
     let one : tree r′ ≡ tree r = reads-once (parsed-reads (r′ .parsed)) (prints-reads t (r .parsed) buffer (r .prints)) in
     let (record-same, answer-same) = prints-measured t (tree r) buffer (r .prints) buffer′ held in
     let serializer : wrote′ .serializer ≡ wrote .serializer =
-        returns-record c′ r′ ∙ ap (λ (x : Tree). printing t x buffer′ .serializer) one ∙ record-same ∙ sym (returns-record c r) in
+    returns-record c′ r′ ∙ ap (λ (x : Tree). printing t x buffer′ .serializer) one ∙ record-same ∙ sym (returns-record c r) in
     let answer : wrote′ .answer ≡ wrote .answer =
-        put-lossless (wrote′ .answer) (wrote .answer) (returns-answer c′ r′ ∙ ap (λ (x : Tree). printing t x buffer′ .answer) one ∙ answer-same ∙ sym (returns-answer c r)) in
+    put-lossless (wrote′ .answer) (wrote .answer) (returns-answer c′ r′ ∙ ap (λ (x : Tree). printing t x buffer′ .answer) one ∙ answer-same ∙ sym (returns-answer c r)) in
     (returns-nodes c′ r′, ap₂ (λ (x : Serializer) (y : PutTree). wroteWith x y) serializer answer, returns-text c′ r′)
   where
     wroteWith : Serializer → PutTree → TreeWrote

@@ -79,7 +79,7 @@ module _ (t : ℕ) (text words buffer : List ℕ) where
       let f = r .prints .fit in
       let (o, a) = fits-answer t x buffer f in
       let e : parseText text words .answer ≡ answered k =
-          ap (λ (y : ParsesText). y .answer) (parses-to text words (p .short) (p .reads) (p .ends) (p .table)) ∙ ap answered (sym (p .nodes)) in
+      ap (λ (y : ParsesText). y .answer) (parses-to text words (p .short) (p .reads) (p .ends) (p .table)) ∙ ap answered (sym (p .nodes)) in
       reprint-by p e
       ∙ ap (afterHouse k d) a
       ∙ ap (λ (y : Writes). reprinted k (take (y .serializer .position) (y .buffer))) (fits-made t x buffer f)
