@@ -20,7 +20,7 @@ use Rattle.sise_tree_writer.specs.declared.serialize.PutTree.the-variants.{At}
 use Rattle.sise_tree_writer.specs.declared.serialize.TreeWrote.{TreeWrote}
 use Rattle.sise_tree_writer.proofs.Lossless.{put-lossless}
 use Rattle.sise_reprint.specs.Equal.{Equal}
-use Rattle.sise_reprint.specs.Reprint.{reprinted, reprint, Fits, Calls, textOf}
+use Rattle.sise_reprint.specs.Reprint.{reprinted, reprint, Fits, Calls, textBy}
 use Rattle.sise_reprint.proofs.Trees.{wholeCalls, whole-calls, equal-same, same-equal, reads-once}
 use Rattle.sise_reprint.proofs.Parsed.{parsed-reads}
 use Rattle.sise_reprint.proofs.House.{printing, Prints, prints-measured, prints-once, prints-reads}
@@ -99,10 +99,10 @@ returned-accepted t text words buffer r f c = let h = fits-reprinted t text word
 pub returned-final : {t : ℕ} {text words buffer : List ℕ} {k o : ℕ} {table : List ℕ} {wrote : TreeWrote} {now : List ℕ}
     → Calls t text words buffer (Nodes k) table wrote now → wrote .answer ≡ At o
     → {words′ buffer′ : List ℕ} {parsed′ : ParsedTree} {table′ : List ℕ} {wrote′ : TreeWrote} {now′ : List ℕ}
-    → Calls t (textOf wrote now) words′ buffer′ parsed′ table′ wrote′ now′ → k ≤ length words′ / 4 → wrote .serializer .position ≤ length buffer′
-    → (parsed′ ≡ Nodes k) × (wrote′ ≡ wrote) × (textOf wrote′ now′ ≡ textOf wrote now)
+    → Calls t (textBy wrote now) words′ buffer′ parsed′ table′ wrote′ now′ → k ≤ length words′ / 4 → wrote .serializer .position ≤ length buffer′
+    → (parsed′ ≡ Nodes k) × (wrote′ ≡ wrote) × (textBy wrote′ now′ ≡ textBy wrote now)
 returned-final {t} {text} {words} {buffer} {k} {o} {table} {wrote} {now} c w {words′} {buffer′} {parsed′} {table′} {wrote′} {now′} c′ nodes room =
-    let out = textOf wrote now in
+    let out = textBy wrote now in
     let r = was-reprinted t text words buffer (returned-reprint c refl w) in
     let held : length out ≤ length buffer′ = omega (arith, length-take (wrote .serializer .position) now) in
     let r′ = reprinted-again r r words′ buffer′ nodes held in
@@ -122,6 +122,6 @@ pub returned-alike : {t : ℕ}
     {text₁ words₁ buffer₁ table₁ now₁ text₂ words₂ buffer₂ table₂ now₂ : List ℕ} {k₁ o₁ k₂ o₂ : ℕ} {wrote₁ wrote₂ : TreeWrote} {x₁ x₂ : Tree}
     → ReadsAs text₁ x₁ → Calls t text₁ words₁ buffer₁ (Nodes k₁) table₁ wrote₁ now₁ → wrote₁ .answer ≡ At o₁
     → ReadsAs text₂ x₂ → Calls t text₂ words₂ buffer₂ (Nodes k₂) table₂ wrote₂ now₂ → wrote₂ .answer ≡ At o₂
-    → (textOf wrote₁ now₁ ≡ textOf wrote₂ now₂ → Equal x₁ x₂) × (Equal x₁ x₂ → textOf wrote₁ now₁ ≡ textOf wrote₂ now₂)
+    → (textBy wrote₁ now₁ ≡ textBy wrote₂ now₂ → Equal x₁ x₂) × (Equal x₁ x₂ → textBy wrote₁ now₁ ≡ textBy wrote₂ now₂)
 returned-alike {t} {text₁} {words₁} {buffer₁} {text₂ = text₂} {words₂ = words₂} {buffer₂ = buffer₂} a₁ c₁ w₁ a₂ c₂ w₂ =
     reprint-alike t text₁ words₁ buffer₁ text₂ words₂ buffer₂ a₁ (returned-reprint c₁ refl w₁) a₂ (returned-reprint c₂ refl w₂)

@@ -3,11 +3,10 @@
 use Prim.Native.Nat.{ℕ, _≤_}
 use native.Mathlib.Omega.{arith}
 use mathlib.Core.Path.{_≡_, refl, sym, ap, _∙_}
-use mathlib.Core.Bool.{true, false≢true}
-use mathlib.Core.Option.{some}
-use mathlib.Core.List.{List, [], _∷_, _++_}
+use mathlib.Core.Bool.{true}
+use mathlib.Core.List.{List, [], _∷_}
 use lib.Dec.{leb, lit<}
-use lib.ListN.{length, take}
+use lib.ListN.{length}
 use lib.Seq.{length-take-le}
 use borrow.Author.Tests.{le-ltb, le-leb, leb-true}
 use Rattle.sise_util.specs.Chars.{oneOf}
@@ -19,8 +18,6 @@ use Rattle.sise_serializer.specs.declared.serializer.Serializer.{Serializer}
 use Rattle.sise_serializer.proofs.Kept.{fresh-sound}
 use Rattle.sise_serializer.proofs.Sound.{sound}
 use Rattle.sise_layout.specs.Texts.{Blank, textOf}
-use Rattle.sise_tree.specs.Tree.{Node, atomsHold}
-use Rattle.sise_tree.specs.Decision.{decide}
 use Rattle.sise_tree.specs.Answers.{answered}
 use Rattle.sise_tree.specs.ParseTree.{longest, filledWith}
 use Rattle.sise_tree.proofs.DecisionLaws.{decide-complete}
@@ -34,7 +31,7 @@ use Rattle.sise_tree_writer.proofs.CallLaws.{fits-first, accepted-keeps, run-af
 use Rattle.sise_tree_writer.proofs.Measured.{no-answer, left, written-on, written-off}
 use Rattle.sise_tree_writer.proofs.ReadAgain.{read-again}
 use Rattle.sise_tree_writer.proofs.Rooms.{exact-room, text-alike}
-use Rattle.sise_tree_writer.proofs.TreeRooms.{SameWithRoom, written-measured, on-answer}
+use Rattle.sise_tree_writer.proofs.TreeRooms.{written-measured, on-answer}
 use Rattle.sise_reprint.proofs.Trees.{callsOf, wholeCalls, whole-calls}
 use Rattle.sise_reprint.proofs.Parsed.{Parsed, read-atoms}
 

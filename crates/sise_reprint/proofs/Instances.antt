@@ -3,7 +3,7 @@
 -- Assumes nothing.
 use Prim.Native.Nat.{ℕ, _/_, _≤_}
 use native.Mathlib.Omega.{arith}
-use mathlib.Core.Path.{_≡_, refl, sym, ap, _∙_}
+use mathlib.Core.Path.{_≡_, refl, ap}
 use mathlib.Core.List.{List, [], _∷_}
 use lib.ListN.{length, getD}
 use Rattle.sise_parser.specs.Examples.{workedText}
@@ -11,7 +11,7 @@ use Rattle.sise_tree.specs.declared.parse.ParsedTree.{ParsedTree}
 use Rattle.sise_tree.specs.declared.parse.ParsedTree.the-variants.{Nodes}
 use Rattle.sise_tree_writer.specs.declared.serialize.TreeWrote.{TreeWrote}
 use Rattle.sise_reprint.specs.Equal.{Equal}
-use Rattle.sise_reprint.specs.Reprint.{reprinted, reprint, Calls, textOf}
+use Rattle.sise_reprint.specs.Reprint.{reprinted, reprint, Calls, textBy}
 use Rattle.sise_reprint.specs.Examples.{used, oddText, otherText, broken, line, reprints, workedTree, otherTree, worked-reads, odd-reads, other-reads, calls-made}
 use Rattle.sise_reprint.proofs.Final.{reprint-final, reprint-through, reprint-alike, returned-final}
 
@@ -43,5 +43,5 @@ atom-differs e =
 -- calls made on `a`: made once more on what they wrote, whatever they are lent, they return the same
 pub made-final : {words′ buffer′ : List ℕ} {parsed′ : ParsedTree} {table′ : List ℕ} {wrote′ : TreeWrote} {now′ : List ℕ}
     → Calls 72 (97 ∷ 10 ∷ []) words′ buffer′ parsed′ table′ wrote′ now′ → 1 ≤ length words′ / 4 → 2 ≤ length buffer′
-    → (parsed′ ≡ Nodes 1) × (textOf wrote′ now′ ≡ 97 ∷ 10 ∷ [])
+    → (parsed′ ≡ Nodes 1) × (textBy wrote′ now′ ≡ 97 ∷ 10 ∷ [])
 made-final c nodes room = let (p, w, t) = returned-final calls-made refl c nodes room in (p, t)

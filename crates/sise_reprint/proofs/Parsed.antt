@@ -1,32 +1,29 @@
 -- parse_text answers a number of nodes exactly for a text of at most 16,777,216 bytes that is read to its end as one node with so many nodes, for which the
 -- table has room; the table that it leaves holds that node, and each atom of it is one.
 -- Assumes nothing.
-use Prim.Native.Nat.{ℕ, _+_, _/_, _≤_}
+use Prim.Native.Nat.{ℕ, _/_, _≤_}
 use native.Mathlib.Omega.{arith}
 use mathlib.Core.Path.{_≡_, refl, sym, ap, _∙_}
-use mathlib.Core.Bool.{Bool, true, false, _&&_}
-use mathlib.Core.Option.{some}
+use mathlib.Core.Bool.{true}
 use mathlib.Core.List.{List}
 use lib.Dec.{leb, ltb}
 use lib.ListN.{length, take, drop, length-drop}
 use borrow.Author.Tests.{le-leb, leb-true, le-ltb, ltb-false}
-use Rattle.sise_util.specs.Atom.{isAtom, isAtomPrefix}
+use Rattle.sise_util.specs.Atom.{isAtomPrefix}
 use Rattle.sise_util.proofs.Ranges.{split, both}
 use Rattle.sise_util.proofs.AtomLaws.{atom-test}
+use Rattle.sise_parser.specs.Refusals.{Refusal}
 use Rattle.sise_parser.specs.Reader.{Next, freshReader, Ending, ended, notEnded, finishReading}
 use Rattle.sise_parser.specs.declared.reader.Reader.{Reader}
 use Rattle.sise_parser.proofs.RefusedLaws.{atom-item}
 use Rattle.sise_tree.specs.Tree.{Node, Nodes, size, atomsHold, atomsHoldAll}
-use Rattle.sise_tree.specs.Decision.{decide}
-use Rattle.sise_tree.specs.Answers.{Answer, answered, refused}
+use Rattle.sise_tree.specs.Answers.{answered, refused}
 use Rattle.sise_tree.specs.ParseTree.{longest, ReadNode, got, stopped, readNode, filledWith}
 use Rattle.sise_tree.specs.ParseText.{ParsesText, placedIn, endedWith, textRead, parseText}
 use Rattle.sise_tree.specs.Descent.{ReadsNode, one, many, ReadsNodes, none, more}
 use Rattle.sise_tree.proofs.Descent.{read-descent}
-use Rattle.sise_tree.proofs.DecisionLaws.{decide-complete}
-use Rattle.sise_tree.proofs.ParseLaws.{read-holds}
 use Rattle.sise_tree.proofs.ReadSteps.{took}
-use Rattle.sise_tree_writer.specs.Alike.{Tree, treeOf, ReadsAs}
+use Rattle.sise_tree_writer.specs.Alike.{treeOf, ReadsAs}
 
 -- ---- the atoms of a node that was read
 
@@ -52,7 +49,7 @@ module _ (text : List ℕ) where
 -- ---- what the answer says
 
 -- a refusal is no answer
-pub no-nodes : {A : Type 0} {k : ℕ} {e : _} → refused e ≡ answered k → A
+pub no-nodes : {A : Type 0} {k : ℕ} {e : Refusal} → refused e ≡ answered k → A
 no-nodes {k = k} {e} h = let z : _≡_ {A = ℕ} 0 1 = cc in absurd (omega arith)
 
 -- the text is read as this node, for which the table has room

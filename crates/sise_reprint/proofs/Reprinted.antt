@@ -13,7 +13,7 @@ use Rattle.sise_tree.specs.ParseText.{ParsesText, parseText}
 use Rattle.sise_tree_writer.specs.SerializeTree.{Writes}
 use Rattle.sise_tree_writer.specs.House.{houseAt}
 use Rattle.sise_tree_writer.specs.Alike.{Tree, treeOf, ReadsAs}
-use Rattle.sise_reprint.specs.Reprint.{Reprint, reprinted, refusedBy, afterHouse, afterParse, reprint}
+use Rattle.sise_reprint.specs.Reprint.{reprinted, refusedBy, afterHouse, afterParse, reprint}
 use Rattle.sise_reprint.proofs.Trees.{nodesIn, nodes-of, reads-once}
 use Rattle.sise_reprint.proofs.Parsed.{Parsed, parses-to, was-parsed, parsed-words, parsed-reads}
 use Rattle.sise_reprint.proofs.House.{printing, house-prints, Prints, answered-fits, fits-answer, fits-made, prints-low, prints-again, prints-reads}

@@ -4,13 +4,13 @@ use Prim.Native.Nat.{ℕ}
 use mathlib.Core.Path.{_≡_, refl}
 use mathlib.Core.Bool.{false}
 use mathlib.Core.List.{List, [], _∷_, _++_}
-use lib.ListN.{take, replicate}
+use lib.ListN.{replicate}
 use Rattle.sise_util.specs.Chars.{within, oneOf, isAtomChr, marks}
 use Rattle.sise_util.specs.Classes.{classOf}
 use Rattle.sise_util.specs.Atom.{isAtom, outside, inside, escaped, hasQuote, isString, endsString, endsEscaped, kindOf, kindPrefix, isAtomPrefix}
 use Rattle.sise_parser.specs.Refusals.{refusal}
 use Rattle.sise_parser.specs.Lexer.{wrong, between, comment, plain, string, escape}
-use Rattle.sise_parser.specs.Reader.{reader, freshReader, isSound, tokenAt, inBeginning, inParsing, nextIn, nextItem, endsAt, finishIn, finishReading, partOf}
+use Rattle.sise_parser.specs.Reader.{reader, isSound, tokenAt, inBeginning, inParsing, nextIn, nextItem, endsAt, finishIn, finishReading, partOf}
 use Rattle.sise_parser.specs.Examples.{workedText}
 use Rattle.sise_parser.specs.declared.reader.Phase.the-variants.{Finishing}
 use Rattle.sise_serializer.specs.Bytes.{pasted}

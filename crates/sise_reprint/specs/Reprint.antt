@@ -10,7 +10,7 @@ use Rattle.sise_serializer.specs.Serializer.{freshSerializer}
 use Rattle.sise_tree.specs.Tree.{size}
 use Rattle.sise_tree.specs.Answers.{Answer, answered, refused}
 use Rattle.sise_tree.specs.ParseTree.{longest}
-use Rattle.sise_tree.specs.ParseText.{ParsesText, parseText, DoesParseText}
+use Rattle.sise_tree.specs.ParseText.{parseText, DoesParseText}
 use Rattle.sise_tree.specs.declared.parse.ParsedTree.{ParsedTree}
 use Rattle.sise_tree_writer.specs.SerializeTree.{fits, Writes, DoesWrite}
 use Rattle.sise_tree_writer.specs.Writing.{textCalls}
@@ -37,10 +37,13 @@ afterParse t text buffer words (refused e) = refusedBy e
 unfoldable pub reprint : ℕ → List ℕ → List ℕ → List ℕ → Reprint
 reprint t text words buffer = let p = parseText text words in afterParse t text buffer (p .words) (p .answer)
 
--- "every text that is read to its end as one node ... and whose tree and reprint fit": 13, 14 and 22 do not stand against it
+-- "every text that is read to its end as one node ... and whose tree and reprint fit"
 pub record Fits (t : ℕ) (text words buffer : List ℕ) {tree : Tree} (r : ReadsAs text tree) : Type 0 where
+  -- 13's limit
   pub short : length text ≤ longest
+  -- 14: "more nodes than the table's length / 4, rounded down"
   pub table : size (r .node) ≤ length words / 4
+  -- 22: none of the tree's calls in house style is refused, nor the finish behind them
   pub room : fits houseStyle (length buffer) freshSerializer (textCalls text t true (r .node)) ≡ true
 
 -- a program made the two calls, the second with the words that the first left: parse_text returned `parsed` and left `table`, the house call returned
@@ -50,5 +53,5 @@ pub record Calls (t : ℕ) (text words buffer : List ℕ) (parsed : ParsedTree) 
   pub write : DoesWrite (houseAt t buffer text table) wrote now
 
 -- what it has then: the bytes up to the position of the record that was returned
-abbrev pub textOf : TreeWrote → List ℕ → List ℕ
-textOf wrote now = take (wrote .serializer .position) now
+abbrev pub textBy : TreeWrote → List ℕ → List ℕ
+textBy wrote now = take (wrote .serializer .position) now
