@@ -68,14 +68,14 @@ fn compare(
     profile: &Profile,
     other: &Option<Profile>,
 ) -> Check {
-    let Some(reprint) = profile.reprinted(calls, random, threshold, None)? else {
+    let Some(reprint) = profile.reprinted(calls, random, threshold)? else {
         return Ok(());
     };
     again(calls, random, threshold, profile, &reprint)?;
     let Some(other) = other else {
         return Ok(());
     };
-    if let Some(second) = other.reprinted(calls, random, threshold, None)? {
+    if let Some(second) = other.reprinted(calls, random, threshold)? {
         let equal = profile.equals(other);
         count.alike += u64::from(equal);
         count.otherwise += u64::from(!equal);
@@ -108,7 +108,7 @@ fn again(
         profile.equals(&reprint),
         "reprint: a reprint has the tree of its text",
     )?;
-    let twice = reprint.reprinted(calls, random, threshold, Some(once.len()))?;
+    let twice = reprint.written(calls, random, threshold, once.len())?;
     ensure(
         twice.as_deref() == Some(once),
         "reprint: the reprint of a reprint is the reprint",
@@ -128,34 +128,51 @@ impl Profile {
         Ok(Some(Self { text, table }))
     }
 
-    /// The tree written in house style, into so many bytes or into as many as it takes; None, if it passes the limit.
+    /// The tree written in house style into so many bytes; None, if they are too few.
+    fn written(
+        &self,
+        calls: &mut Calls,
+        random: &mut Random,
+        threshold: u64,
+        room: usize,
+    ) -> Check<Option<Vec<u8>>> {
+        let Self { text, table } = self;
+        let before = vec![random.byte(); room];
+        let (reported, mut after) = calls.serialize_tree(
+            &lines(),
+            &before,
+            text,
+            table,
+            threshold,
+            true,
+            edge(random),
+        );
+        let answer = reported.answer(text.len())?;
+        if answer == refused(22) {
+            return Ok(None);
+        }
+        ensure(
+            refusal(answer).is_none(),
+            "reprint: a tree that was read is written, or has no room",
+        )?;
+        after.truncate(answer as usize);
+        Ok(Some(after))
+    }
+
+    /// The same into as many bytes as it takes; None, if it passes the limit.
     fn reprinted(
         &self,
         calls: &mut Calls,
         random: &mut Random,
         threshold: u64,
-        room: Option<usize>,
     ) -> Check<Option<Vec<u8>>> {
-        let Self { text, table } = self;
-        let style = lines();
-        let mut room = room.unwrap_or(2 * text.len() + 100);
+        let mut room = 2 * self.text.len() + 100;
         loop {
-            let before = vec![random.byte(); room];
-            let (reported, mut after) =
-                calls.serialize_tree(&style, &before, text, table, threshold, true, edge(random));
-            let answer = reported.answer(text.len())?;
-            if refusal(answer).is_none() {
-                after.truncate(answer as usize);
-                return Ok(Some(after));
+            let written = self.written(calls, random, threshold, room.min(LONGEST))?;
+            if written.is_some() || room >= LONGEST {
+                return Ok(written);
             }
-            ensure(
-                answer == refused(22),
-                "reprint: a tree that was read is written, or has no room",
-            )?;
-            if room == LONGEST {
-                return Ok(None);
-            }
-            room = (16 * room).min(LONGEST);
+            room *= 16;
         }
     }
 
