@@ -80,7 +80,7 @@ fn run(options: &Options) -> Check<String> {
     } = count;
     Ok(format!(
         "damage: {cases} cases, {made} calls, 0 faults; seeds {first} to {seed}\n\
-         reprints: {texts} texts, each reprinted twice at 6 thresholds; {alike} pairs alike, {otherwise} otherwise"
+         reprints: {texts} texts, each reprinted twice at 6 thresholds, where it fits; {alike} pairs alike, {otherwise} otherwise"
     ))
 }
 
