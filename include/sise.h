@@ -27,6 +27,10 @@
  * is one fault, as in an editor: it has the bytes from there on that are a start of a well-formed character, at least one, and
  * the next place to look at is the byte behind them. After 0xE2 0x82 that is two bytes on, after 0xC0 one.
  *
+ * Reprints. A text is reprinted by sise_parse_tree and then sise_serialize_tree in house style (below), at a threshold that is
+ * kept to. Its comments are lost, and nothing else but its layout. Reprinted again at the same threshold, a reprint is the same,
+ * byte for byte; and two texts reprint alike exactly if their trees are equal, atoms by their bytes. examples/c/reprint.c.
+ *
  * Tables. A tree is held in a table of 32-bit words, four a node, a list's children after it in order:
  *     an atom:  its kind 1, 2 or 3, place of its first byte in the text, number of bytes, 1
  *     a list:   0, number of children, distance in nodes back to its parent, number of nodes in it with itself

@@ -23,6 +23,7 @@ mod profile;
 #[path = "../src/random.rs"]
 mod random;
 mod reading;
+mod reprint;
 mod scripts;
 mod shown;
 mod styles;
@@ -34,6 +35,7 @@ mod writing;
 use answers::Check;
 use calls::Calls;
 use options::Options;
+use reprint::Count;
 use std::process::ExitCode;
 use std::time::{Duration, Instant};
 use texts::Texts;
@@ -61,17 +63,40 @@ fn run(options: &Options) -> Check<String> {
     once(options, &mut calls)?;
     let mut seed = options.seed;
     let mut cases = 0;
+    let mut count = Count::default();
     loop {
         cases += one_seed(options, &mut calls, &texts, seed)?;
+        reprints(options, &mut calls, &texts, &mut count, seed)?;
         if Instant::now() >= end {
             break;
         }
         seed += 1;
     }
     let (first, made) = (options.seed, calls.made);
+    let Count {
+        texts,
+        alike,
+        otherwise,
+    } = count;
     Ok(format!(
-        "damage: {cases} cases, {made} calls, 0 faults; seeds {first} to {seed}"
+        "damage: {cases} cases, {made} calls, 0 faults; seeds {first} to {seed}\n\
+         reprints: {texts} texts, each reprinted twice at 6 thresholds, where it fits; {alike} pairs alike, {otherwise} otherwise"
     ))
+}
+
+/// Texts that are reprinted.
+fn reprints(
+    options: &Options,
+    calls: &mut Calls,
+    texts: &Texts,
+    count: &mut Count,
+    seed: u64,
+) -> Check {
+    for number in 0..options.reprints {
+        reprint::run(calls, texts, count, seed, number)
+            .map_err(|rule| format!("seed {seed}, reprint {number}: {rule}"))?;
+    }
+    Ok(())
 }
 
 /// The checks that no seed changes.

@@ -6,6 +6,8 @@ pub struct Options {
     /// The cases of each seed, `--cases N`, from `--from K` on.
     pub cases: u64,
     pub from: u64,
+    /// The texts of each seed that are reprinted, `--reprints N`.
+    pub reprints: u64,
     /// The first seed, `--seed S`.
     pub seed: u64,
     /// New seeds until so many hours are over, `--hours H`; else one seed.
@@ -21,6 +23,7 @@ impl Options {
         let mut options = Self {
             cases: 200_000,
             from: 0,
+            reprints: 10_000,
             seed: 1,
             hours: 0.0,
             deep: false,
@@ -30,6 +33,7 @@ impl Options {
             match word.as_str() {
                 "--cases" => options.cases = number(&word, words.next())?,
                 "--from" => options.from = number(&word, words.next())?,
+                "--reprints" => options.reprints = number(&word, words.next())?,
                 "--seed" => options.seed = number(&word, words.next())?,
                 "--hours" => options.hours = number(&word, words.next())?,
                 "--deep" => options.deep = true,

@@ -1,0 +1,3 @@
+pub mod Reprint
+pub mod Equal
+pub mod Examples
