@@ -8,6 +8,7 @@ pub mod AtomsHold
 pub mod HeldLaws
 pub mod WalkLaws
 pub mod PathLaws
+pub mod FindLaws
 pub mod ReadSteps
 pub mod PlainItems
 pub mod PlainKinds
