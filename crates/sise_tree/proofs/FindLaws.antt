@@ -33,7 +33,7 @@ module _ (words : List ℕ) {i : ℕ} where
   past-stuck zero on h some z = absurd (omega arith)
   past-stuck (suc c) on h some z = rw (z, past) (read-inside _ h)
 
-  past-one :
+  pub past-one :
       (c : ℕ) (on : ℕ → Way) → i < length words / 4 → 0 < c → (span words i ≡ 0 → ⊥)
       → past words c i on ≡ looks i (past words (c - 1) (i + span words i) on)
   unfolding past
@@ -43,11 +43,11 @@ module _ (words : List ℕ) {i : ℕ} where
       rw (ne-eqb (span words i) 0 z, past, e) (read-inside _ h)
 
   -- none is left, and the path goes on with k
-  follow-none : (k : ℕ) (path : List ℕ) → i < length words / 4 → hasChild words i k ≡ false → follow words i (k ∷ path) ≡ looks i (stops 16)
+  pub follow-none : (k : ℕ) (path : List ℕ) → i < length words / 4 → hasChild words i k ≡ false → follow words i (k ∷ path) ≡ looks i (stops 16)
   unfolding follow
   follow-none k path h e = rw (e, follow) (read-inside _ h)
 
-  follow-child :
+  pub follow-child :
       (k : ℕ) (path : List ℕ) → i < length words / 4 → hasChild words i k ≡ true
       → follow words i (k ∷ path) ≡ looks i (past words k (i + 1) (λ j. follow words j path))
   unfolding follow

@@ -9,6 +9,8 @@ pub mod HeldLaws
 pub mod WalkLaws
 pub mod PathLaws
 pub mod FindLaws
+pub mod FindTree
+pub mod FindReads
 pub mod ReadSteps
 pub mod PlainItems
 pub mod PlainKinds

@@ -1,12 +1,14 @@
 -- What find_path answers (document 02, 2.8).
 -- Assumes nothing.
 use Prim.Native.Nat.{ℕ, zero, suc, _+_, _/_}
+use mathlib.Core.Path.{_≡_}
 use mathlib.Core.Bool.{Bool, cond, _&&_}
 use mathlib.Core.List.{List, [], _∷_}
 use lib.Dec.{ltb, eqb}
 use lib.ListN.{length}
 use Rattle.sise_tree.specs.Tree.{kind, first, span}
 use Rattle.sise_tree.specs.ParseTree.{longest}
+use Rattle.sise_tree.specs.Answers.{Answer, answered}
 use Rattle.sise_tree.specs.declared.find.Found.{Found}
 use Rattle.sise_tree.specs.declared.find.Found.the-variants.{Node, TextTooLong, NotATree, NoSuchNode}
 
@@ -50,6 +52,28 @@ counted n (stops r) = refused r
 -- "13 comes first"; then "the root"
 unfoldable pub findPath : List ℕ → List ℕ → List ℕ → Lookup
 findPath words text path = cond (ltb longest (length text)) (refused 13) (counted 0 (follow words 0 path))
+
+-- "the sum of (index + 1) over the path"
+unfoldable pub steps : List ℕ → ℕ
+steps [] = 0
+steps (k ∷ path) = k + 1 + steps path
+
+-- "as the full lookup, with the number of nodes looked at; for a found node that is 1 plus the sum"
+abbrev pub withCount : List ℕ → Answer → Lookup
+withCount path (answered i) = found i (1 + steps path)
+withCount path (Answer.refused e) = refused (e .number)
+
+-- each node looked at on a way is such
+abbrev pub Each : (ℕ → Type 0) → Way → Type 0
+Each P (looks i w) = P i × Each P w
+Each P (finds i) = Unit {0}
+Each P (stops r) = Unit {0}
+
+-- node i has the same words in both tables, but for the third, which this lookup does not read
+pub record SameNode (words others : List ℕ) (i : ℕ) : Type 0 where
+  pub kinds : kind words i ≡ kind others i
+  pub firsts : first words i ≡ first others i
+  pub spans : span words i ≡ span others i
 
 -- the numbers and values of each case
 abbrev pub foundAs : Found → Lookup
