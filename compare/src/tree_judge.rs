@@ -9,8 +9,8 @@ use crate::script::{put_record, refused};
 use crate::serializer::{Serializer, SerializerStyle};
 use crate::tree_case::{put_case, TreeCase};
 use crate::tree_model::{
-    held, index_path, opened, parse_tree, read_node, serialize_house_at, serialize_tree, Node,
-    Parsed,
+    find_path, held, index_path, opened, parse_tree, read_node, serialize_house_at, serialize_tree,
+    Node, Parsed,
 };
 use crate::writer_judge::{agree, call_original, put_line, wide};
 use crate::writer_model::Model;
@@ -46,7 +46,7 @@ impl TreeJudge {
     pub fn expected(&mut self, case: &TreeCase) -> Vec<u8> {
         self.cases += 1;
         self.calls +=
-            case.calls + 1 + case.writings + house_thresholds(case).len() + case.paths.len();
+            case.calls + 1 + case.writings + house_thresholds(case).len() + 2 * case.paths.len();
         let mut lines = Vec::new();
         let mut table = case.fresh_table();
         self.parse(case, &mut table, &mut lines);
@@ -66,7 +66,12 @@ impl TreeJudge {
         for path in &case.paths {
             let answer = index_path(tree.as_ref(), path);
             self.follow_path(case, path, answer, original.as_ref());
-            lines.extend_from_slice(indexed(answer).as_bytes());
+            let found = find_path(&table[case.first..], path);
+            if tree.is_some() {
+                self.hold(case, "find_path", found == counted(answer, path));
+            }
+            let line = format!("{} | {}\n", indexed(answer), looked_up(found));
+            lines.extend_from_slice(line.as_bytes());
         }
         lines
     }
@@ -237,9 +242,22 @@ fn put_writing(out: &mut Vec<u8>, answer: Result<usize, u8>, model: &Model) {
 
 fn indexed(answer: Result<usize, u8>) -> String {
     match answer {
-        Ok(index) => format!("# {index}\n"),
-        Err(number) => format!("! {number}\n"),
+        Ok(index) => format!("# {index}"),
+        Err(number) => format!("! {number}"),
     }
+}
+
+fn looked_up(answer: Result<(usize, usize), u8>) -> String {
+    match answer {
+        Ok((index, seen)) => format!("# {index} {seen}"),
+        Err(number) => format!("! {number}"),
+    }
+}
+
+/// What `find_path` gives where the table holds a tree: the answer of `index_path`, and for a node 1 plus the sum of (index + 1) over the path.
+fn counted(answer: Result<usize, u8>, path: &[u64]) -> Result<(usize, usize), u8> {
+    let seen = || 1 + path.iter().map(|&step| step as usize + 1).sum::<usize>();
+    answer.map(|index| (index, seen()))
 }
 
 fn original_style(style: Style) -> SerializerStyle<'static> {

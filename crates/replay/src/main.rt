@@ -26,11 +26,13 @@
 // the stores is a place in the table and the word that is stored there: nothing for a place past the table, the largest of 32 bits for a greater
 // number. The other calls are lent the table from word O on: S times serialize_tree at the threshold T, all into one buffer of R bytes, the first
 // with the record that Q times begin_list and put_atom of `h`, at the largest threshold, left there, each later one with the record that the last
-// left; serialize_house_at at the thresholds 0 and T and serialize_house, each from the start of another such buffer; and index_path with each path.
+// left; serialize_house_at at the thresholds 0 and T and serialize_house, each from the start of another such buffer; and index_path and find_path with
+// each path.
 // Printed is the line `case`; for parse_tree the line
 //     ANSWER | position phase lists
 // where ANSWER is `# nodes` or `! number place code`, and the line of `:` and the W words, a space before each; for each writing the line of a
-// writer's call, and `= ` with the buffer's bytes up to the position; for each path the line `# index` or `! number`.
+// writer's call, and `= ` with the buffer's bytes up to the position; for each path a line with index_path's answer, `# index` or `! number`, then ` | `,
+// and find_path's, `# index seen` or `! number`.
 //
 // At a case that is malformed, or that the script's end cuts off, the line `malformed` is printed, and nothing after it. Of a writer's case the calls
 // before the malformed one are run, and of a tree's case those of the lines before the malformed one.

@@ -7,6 +7,7 @@ mod report;
 use items::count_items;
 use items::fill_items;
 use report::Values;
+use report::report_found;
 use report::report_indexed;
 use report::report_parsed;
 use report::report_put;
@@ -14,6 +15,7 @@ use report::report_refused;
 use sise_parser::Finished;
 use sise_serializer::LIMIT;
 use sise_serializer::write_calls;
+use sise_tree::find_path;
 use sise_tree::index_path;
 use sise_tree::parse_text;
 use sise_tree_writer::measure_text;
@@ -24,9 +26,10 @@ ghost use Rattle.sise_util.specs.Atom.{isAtom, kindOf, kindNumber};
 ghost use Rattle.sise_serializer.specs.Serializer.{style};
 ghost use Rattle.sise_serializer.specs.Words.{WritesCalls};
 ghost use Rattle.sise_tree.specs.IndexPath.{indexPath};
+ghost use Rattle.sise_tree.specs.FindPath.{findPath};
 ghost use Rattle.sise_tree.specs.ParseText.{parseText};
 ghost use Rattle.sise_tree_writer.specs.Writing.{writeText};
-ghost use Rattle.sise_c.specs.Reports.{checked, Reports, sizeOf, ReportsSize};
+ghost use Rattle.sise_c.specs.Reports.{checked, Reports, ReportsFound, sizeOf, ReportsSize};
 ghost use Rattle.sise_c.specs.Items.{readItems};
 
 // Whether the bytes are an atom: 0 or 17.
@@ -67,6 +70,20 @@ pub extern "C" fn sise_index_path(
     ensures { λ r. ⌜ Reports (indexPath (now (table .entry)) (now (text .entry)) (now (path .entry))) r (now (values .exit)) ⌝ }
 {
     report_indexed(index_path(table, text, path), values)
+}
+
+// Finds the node at the end of the path as the table has it, which is not tested: only the nodes on the way are read. The values are the node's index in the
+// table and the number of nodes looked at.
+#[no_mangle]
+pub extern "C" fn sise_find_path(
+    table: &[u32],
+    text: &[u8],
+    path: &[u64],
+    values: &mut Values,
+) -> u32
+    ensures { λ r. ⌜ ReportsFound (findPath (now (table .entry)) (now (text .entry)) (now (path .entry))) r (now (values .exit)) ⌝ }
+{
+    report_found(find_path(table, text, path), values)
 }
 
 // Writes the tree that the table holds over the text to the buffer's start, and a line break after it if wished. The first value is how many bytes are written.

@@ -1,12 +1,14 @@
 // How an answer is reported: its number as the result, its two values in the words that the caller lent.
 use sise_parser::ParseError;
+use sise_tree::Found;
 use sise_tree::Indexed;
 use sise_tree::ParsedTree;
 use sise_tree_writer::PutTree;
 ghost use Rattle.sise_parser.specs.Refusals.{refusalOf};
 ghost use Rattle.sise_tree.specs.Answers.{refused, indexedAs, parsedAs};
 ghost use Rattle.sise_tree_writer.specs.Answers.{putAs};
-ghost use Rattle.sise_c.specs.Reports.{Reports, sizeOr};
+ghost use Rattle.sise_tree.specs.FindPath.{foundAs};
+ghost use Rattle.sise_c.specs.Reports.{Reports, ReportsFound, sizeOr};
 
 // What a call answers beside its result.
 pub type Values = [u64; 2];
@@ -16,6 +18,17 @@ pub(crate) fn report_indexed(answer: Indexed, values: &mut Values) -> u32
 {
     if let Indexed::Node(index) = answer {
         *values = [index as u64, 0];
+        return 0;
+    }
+    *values = [0, 0];
+    answer.number()
+}
+
+pub(crate) fn report_found(answer: Found, values: &mut Values) -> u32
+    ensures { λ r. ⌜ ReportsFound (foundAs answer) r (now (values .exit)) ⌝ }
+{
+    if let Found::Node { index, seen } = answer {
+        *values = [index as u64, seen as u64];
         return 0;
     }
     *values = [0, 0];
