@@ -80,6 +80,15 @@ fn read_table() -> Vec<u32> {
     table
 }
 
+fn find_node(table: &[u32]) {
+    let found = sise::find_path(table, PROFILE, &[1, 0]);
+    let (number, index, seen) = match found {
+        Ok(found) => (0, found.index as u64, found.seen as u64),
+        Err(refusal) => numbers(Err(refusal)),
+    };
+    println!("sise_find_path: {number}, {index} {seen}");
+}
+
 fn write_table(table: &[u32]) {
     let mut buf = [UNTOUCHED; BUFFER];
     let measured = sise::measure_tree(STYLE, PROFILE, table, 9, true);
@@ -141,6 +150,7 @@ fn main() {
     let table = read_table();
     let node = sise::index_path(&table, PROFILE, &[1, 0]);
     print_result("sise_index_path", node);
+    find_node(&table);
     write_table(&table);
     write_house();
     write_items();

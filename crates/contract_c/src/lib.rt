@@ -2,6 +2,7 @@
 // library on one page. An edit of must-fail/ puts a wrong program in the place of a body, and the contract has to refuse it.
 use sise_c::sise_atom_kind;
 use sise_c::sise_check_atom;
+use sise_c::sise_find_path;
 use sise_c::sise_index_path;
 use sise_c::sise_measure_tree;
 use sise_c::sise_parse_tree;
@@ -13,9 +14,10 @@ ghost use Rattle.sise_util.specs.Atom.{isAtom, kindOf, kindNumber};
 ghost use Rattle.sise_serializer.specs.Serializer.{style};
 ghost use Rattle.sise_serializer.specs.Words.{WritesCalls};
 ghost use Rattle.sise_tree.specs.IndexPath.{indexPath};
+ghost use Rattle.sise_tree.specs.FindPath.{findPath};
 ghost use Rattle.sise_tree.specs.ParseText.{parseText};
 ghost use Rattle.sise_tree_writer.specs.Writing.{writeText};
-ghost use Rattle.sise_c.specs.Reports.{checked, Reports, sizeOf, ReportsSize};
+ghost use Rattle.sise_c.specs.Reports.{checked, Reports, ReportsFound, sizeOf, ReportsSize};
 ghost use Rattle.sise_c.specs.Items.{readItems};
 
 // What a call answers beside its result: the answer and 0, or the refusal's place and code point.
@@ -48,6 +50,13 @@ pub fn index_path(table: &[u32], text: &[u8], path: &[u64], values: &mut Values)
     ensures { λ r. ⌜ Reports (indexPath (now (table .entry)) (now (text .entry)) (now (path .entry))) r (now (values .exit)) ⌝ }
 {
     sise_index_path(table, text, path, values)
+}
+
+// Finds the node at the end of the path, where only the nodes on the way are read. The values are its index in the table and the number of nodes looked at.
+pub fn find_path(table: &[u32], text: &[u8], path: &[u64], values: &mut Values) -> u32
+    ensures { λ r. ⌜ ReportsFound (findPath (now (table .entry)) (now (text .entry)) (now (path .entry))) r (now (values .exit)) ⌝ }
+{
+    sise_find_path(table, text, path, values)
 }
 
 // Writes the tree that the table holds over the text, and a line break after it if wished. The first value is how many bytes are written.
