@@ -11,8 +11,7 @@ ghost use Prim.Native.Nat.{_<_, _^_};
 ghost use Rattle.sise_tree.specs.Decision.{decide};
 ghost use Rattle.sise_tree.specs.Held.{heldAs};
 ghost use Rattle.sise_tree.specs.IndexPath.{indexPath};
-ghost use Rattle.sise_tree.specs.FindPath.{findPath, foundAs};
-ghost use Rattle.sise_tree.specs.FindPath as find;
+ghost use Rattle.sise_tree.specs.FindPath.{findPath, foundAs, foundNumber};
 ghost use Rattle.sise_tree.specs.Answers.{indexedAs, parsedAs, numberOf, placeOf, codeOf};
 ghost use Rattle.sise_tree.specs.ParseTree.{parseTree, DoesParse};
 ghost use Rattle.sise_tree.specs.ParseText.{parseText, DoesParseText};
@@ -98,7 +97,7 @@ pub fn find_path(table: &[u32], text: &[u8], path: &[u64]) -> Found
 
 // 01's number of an answer of find_path, 0 for a node.
 pub fn found_number(found: Found) -> u32
-    ensures { λ r. ⌜ r ≡ find.numberOf (foundAs found) ⌝ }
+    ensures { λ r. ⌜ r ≡ foundNumber (foundAs found) ⌝ }
 {
     found.number()
 }

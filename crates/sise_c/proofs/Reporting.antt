@@ -14,8 +14,7 @@ use Rattle.sise_tree.proofs.parse.ParsedTree as parsings
 use Rattle.sise_tree.specs.declared.tree.Indexed.{Indexed}
 use Rattle.sise_tree.specs.declared.tree.Indexed.the-variants as indexed
 use Rattle.sise_tree.proofs.tree.Indexed as indexings
-use Rattle.sise_tree.specs.FindPath as find
-use Rattle.sise_tree.specs.FindPath.{Lookup, found, foundAs}
+use Rattle.sise_tree.specs.FindPath.{Lookup, found, foundAs, foundNumber, foundValues}
 use Rattle.sise_tree.specs.declared.find.Found.{Found}
 use Rattle.sise_tree.specs.declared.find.Found.the-variants as lookups
 use Rattle.sise_tree.proofs.find.Found as findings
@@ -52,12 +51,12 @@ indexed-refusal indexed.NotATree k = record { result = refl; values = refl }
 indexed-refusal indexed.NoSuchNode k = record { result = refl; values = refl }
 
 pub found-by : {a b : Lookup} {r m : ℕ} {now : List ℕ} → a ≡ b → r ≡ m → ReportsFound b m now → ReportsFound a r now
-found-by e d t = record { result = d ∙ t .result ∙ ap find.numberOf (sym e); values = t .values ∙ ap find.valuesOf (sym e) }
+found-by e d t = record { result = d ∙ t .result ∙ ap foundNumber (sym e); values = t .values ∙ ap foundValues (sym e) }
 
 pub found-node : {a : Lookup} {i n : ℕ} → a ≡ found i n → ReportsFound a 0 (i ∷ n ∷ [])
 found-node e = found-by e refl (record { result = refl; values = refl })
 
-pub found-refusal : (a : Found) → OneOf (1 ∷ 2 ∷ 3 ∷ []) (tagOf findings.the-type a) → ReportsFound (foundAs a) (find.numberOf (foundAs a)) (0 ∷ 0 ∷ [])
+pub found-refusal : (a : Found) → OneOf (1 ∷ 2 ∷ 3 ∷ []) (tagOf findings.the-type a) → ReportsFound (foundAs a) (foundNumber (foundAs a)) (0 ∷ 0 ∷ [])
 found-refusal (lookups.Node i n) k = absurd (no-zero 0 (1 ∷ 2 ∷ []) k)
 found-refusal lookups.TextTooLong k = record { result = refl; values = refl }
 found-refusal lookups.NotATree k = record { result = refl; values = refl }

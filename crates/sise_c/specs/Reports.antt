@@ -7,8 +7,7 @@ use mathlib.Core.List.{List, [], _∷_}
 use lib.ListN.{length}
 use Rattle.sise_tree.specs.ParseTree.{longest}
 use Rattle.sise_tree.specs.Answers.{Answer, answered, refused, numberOf}
-use Rattle.sise_tree.specs.FindPath as find
-use Rattle.sise_tree.specs.FindPath.{Lookup}
+use Rattle.sise_tree.specs.FindPath.{Lookup, foundNumber, foundValues}
 use Rattle.sise_tree_writer.specs.SerializeTree.{Writes}
 
 -- 17: "`check_atom` says no"
@@ -27,8 +26,8 @@ pub record Reports (a : Answer) (r : ℕ) (now : List ℕ) : Type 0 where
 
 -- the same of a lookup that also answers the number of nodes looked at
 pub record ReportsFound (a : Lookup) (r : ℕ) (now : List ℕ) : Type 0 where
-  pub result : r ≡ find.numberOf a
-  pub values : now ≡ find.valuesOf a
+  pub result : r ≡ foundNumber a
+  pub values : now ≡ foundValues a
 
 -- where a writing answers with an offset, its size n is reported
 abbrev pub sizeOr : ℕ → Answer → Answer

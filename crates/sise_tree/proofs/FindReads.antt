@@ -12,11 +12,11 @@ use borrow.Author.Tests.{le-ltb, ltb-true, eqb-false}
 use Rattle.sise_util.proofs.Ranges.{split}
 use Rattle.sise_tree.specs.Tree.{kind, first, span}
 use Rattle.sise_tree.specs.ParseTree.{longest}
-use Rattle.sise_tree.specs.FindPath.{Way, looks, finds, stops, reads, past, hasChild, follow, Lookup, found, refused, counted, findPath, steps, Each, SameNode, numberOf, valuesOf}
+use Rattle.sise_tree.specs.FindPath.{Way, looks, finds, stops, reads, past, hasChild, follow, Lookup, found, refused, counted, findPath, steps, EachLooked, SameNode, foundNumber, foundValues}
 
 module _ (words others : List ℕ) (size : length words / 4 ≡ length others / 4) where
   abbrev Same : Way → Type 0
-  Same w = Each (SameNode words others) w
+  Same w = EachLooked (SameNode words others) w
 
   -- node i is read: the ways on are the same, if they are where it is
   reads-same : (i : ℕ) (v w : Way) → Same (reads words i v) → (SameNode words others i → Same v → v ≡ w) → reads words i v ≡ reads others i w
@@ -58,7 +58,7 @@ any-text words text other path h g = rw (le-ltb longest (length text) h, le-ltb 
 -- ---- the number of nodes looked at
 
 unfound : {C : Type 0} {r j n : ℕ} → 0 < r → refused r ≡ found j n → C
-unfound h e = absurd (omega (arith, ap numberOf e))
+unfound h e = absurd (omega (arith, ap foundNumber e))
 
 module _ (words : List ℕ) (j n : ℕ) where
   reads-found : {C : Type 0} (m i : ℕ) (w : Way) → counted m (reads words i w) ≡ found j n → (i < length words / 4 → counted (m + 1) w ≡ found j n → C) → C
@@ -90,8 +90,8 @@ module _ (words : List ℕ) (j n : ℕ) where
   follow-found [] m i h =
       reads-found m i _ h
       (λ inside e.
-      let at : i ≡ j = ap (λ (f : Lookup). getD (valuesOf f) 0 0) e in
-      let count : m + 1 ≡ n = ap (λ (f : Lookup). getD (valuesOf f) 1 0) e in
+      let at : i ≡ j = ap (λ (f : Lookup). getD (foundValues f) 0 0) e in
+      let count : m + 1 ≡ n = ap (λ (f : Lookup). getD (foundValues f) 1 0) e in
       record { number = omega (arith, count); forward = omega (arith, at); within = omega (arith, at) })
   follow-found (k ∷ path) m i h =
       reads-found m i _ h

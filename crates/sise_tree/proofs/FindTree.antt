@@ -14,9 +14,11 @@ use Rattle.sise_util.proofs.Ranges.{split, and-first, and-second}
 use Rattle.sise_tree.specs.Tree.{Node, atom, list, Nodes, empty, _then_, size, children, tableAt, tables, lies, liesAll, kind, first, second, span, HoldsTree}
 use Rattle.sise_tree.specs.ParseTree.{longest}
 use Rattle.sise_tree.specs.Decision.{decide}
-use Rattle.sise_tree.specs.IndexPath.{nodeAt, childAt, indexed, indexedIn, indexPath}
+use Rattle.sise_tree.specs.Answers.{answered, numberOf}
+use Rattle.sise_tree.specs.IndexPath.{nodeAt, childAt, indexed, indexPath}
 use Rattle.sise_tree.specs.FindPath.{looks, finds, stops, past, hasChild, follow, Lookup, found, refused, counted, findPath, steps, withCount}
 use Rattle.sise_tree.proofs.TreeLaws.{sits-kind, length-table, size-pos, holds-words}
+use Rattle.sise_tree.proofs.DecisionLaws.{decide-sound}
 use Rattle.sise_tree.proofs.LocalLaws.{stands, skip, node-local, held, sound-decides}
 use Rattle.sise_tree.proofs.PathLaws.{node-here, no-child}
 use Rattle.sise_tree.proofs.FindLaws.{read-inside, past-one, follow-none, follow-child}
@@ -84,13 +86,24 @@ module _ (words text path : List ℕ) where
   counts none = refl
   counts (some i) = refl
 
+  as-decided : {n : Node} → decide text words ≡ some n → findPath words text path ≡ withCount path (indexPath words text path)
+  unfolding findPath indexPath
+  as-decided {n} e =
+      let h = decide-sound e in
+      let same : 0 + (1 + steps path) ≡ 1 + steps path = omega arith in
+      let way = follows text words path (second words 0) n 0 0 (drop (4 * size n) words) (holds-words h) (h .inText) in
+      split (ltb longest (length text)) (λ y. rw y) (λ y. rw (y, e) (rw same at way ∙ counts (nodeAt n 0 path)))
+
   -- "On a table that holds a tree it answers as the full lookup, with the number of nodes looked at"
   pub find-as-index : HoldsTree text words → findPath words text path ≡ withCount path (indexPath words text path)
-  unfolding findPath indexPath
-  find-as-index h =
-      let (n, e, s) = held text words (sound-decides text words h) in
-      let zero-more : 0 + (1 + steps path) ≡ 1 + steps path = omega arith in
-      let found = follows text words path (second words 0) n 0 0 (drop (4 * size n) words) (holds-words (s .holds)) (s .holds .inText) in
-      split (ltb longest (length text))
-      (λ y. rw y)
-      (λ y. rw (y, e) (rw zero-more at found ∙ counts (nodeAt n 0 path)))
+  find-as-index h = let (n, e, s) = held text words (sound-decides text words h) in as-decided e
+
+  -- so it finds each node that the full lookup finds
+  pub found-as-index : {i : ℕ} → indexPath words text path ≡ answered i → findPath words text path ≡ found i (1 + steps path)
+  unfolding indexPath
+  found-as-index {i} h = of (decide text words) refl
+    where
+      of : (d : Option Node) → decide text words ≡ d → findPath words text path ≡ found i (1 + steps path)
+      of (some n) e = as-decided e ∙ ap (withCount path) h
+      of none e =
+          split (ltb longest (length text)) (λ y. absurd (omega (arith, ap numberOf (rw (y, indexPath) at h)))) (λ y. absurd (omega (arith, ap numberOf (rw (y, indexPath, e) at h))))

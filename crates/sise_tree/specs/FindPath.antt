@@ -64,10 +64,10 @@ withCount path (answered i) = found i (1 + steps path)
 withCount path (Answer.refused e) = refused (e .number)
 
 -- each node looked at on a way is such
-abbrev pub Each : (ℕ → Type 0) → Way → Type 0
-Each P (looks i w) = P i × Each P w
-Each P (finds i) = Unit {0}
-Each P (stops r) = Unit {0}
+abbrev pub EachLooked : (ℕ → Type 0) → Way → Type 0
+EachLooked P (looks i w) = P i × EachLooked P w
+EachLooked P (finds i) = Unit {0}
+EachLooked P (stops r) = Unit {0}
 
 -- node i has the same words in both tables, but for the third, which this lookup does not read
 pub record SameNode (words others : List ℕ) (i : ℕ) : Type 0 where
@@ -83,11 +83,11 @@ foundAs NotATree = refused 15
 foundAs NoSuchNode = refused 16
 
 -- a refusal's number, 0 for a node
-abbrev pub numberOf : Lookup → ℕ
-numberOf (found i n) = 0
-numberOf (refused r) = r
+abbrev pub foundNumber : Lookup → ℕ
+foundNumber (found i n) = 0
+foundNumber (refused r) = r
 
 -- the node's index and the number of nodes looked at, 0 for a refusal
-abbrev pub valuesOf : Lookup → List ℕ
-valuesOf (found i n) = i ∷ n ∷ []
-valuesOf (refused r) = 0 ∷ 0 ∷ []
+abbrev pub foundValues : Lookup → List ℕ
+foundValues (found i n) = i ∷ n ∷ []
+foundValues (refused r) = 0 ∷ 0 ∷ []

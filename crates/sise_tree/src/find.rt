@@ -3,7 +3,7 @@ use crate::tree::LONGEST;
 use crate::tree::is_list;
 use crate::tree::word;
 ghost use mathlib.Core.Path.{_≡_};
-ghost use Rattle.sise_tree.specs.FindPath.{findPath, foundAs, numberOf};
+ghost use Rattle.sise_tree.specs.FindPath.{findPath, foundAs, foundNumber};
 
 // What find_path answers: the node's index and the number of nodes looked at, or a refusal.
 pub enum Found {
@@ -16,7 +16,7 @@ pub enum Found {
 impl Found {
     // Document 01's number, 0 for a node.
     pub fn number(self) -> u32
-        ensures { λ r. ⌜ r ≡ numberOf (foundAs self) ⌝ }
+        ensures { λ r. ⌜ r ≡ foundNumber (foundAs self) ⌝ }
     {
         match self {
             Found::Node { .. } => 0,
