@@ -12,7 +12,7 @@ use borrow.Author.Tests.{le-ltb, ltb-true, eqb-false}
 use Rattle.sise_util.proofs.Ranges.{split}
 use Rattle.sise_tree.specs.Tree.{kind, first, span}
 use Rattle.sise_tree.specs.ParseTree.{longest}
-use Rattle.sise_tree.specs.FindPath.{Way, looks, finds, stops, reads, past, hasChild, follow, Lookup, found, refused, counted, findPath, steps, EachLooked, SameNode, foundNumber, foundValues}
+use Rattle.sise_tree.specs.FindPath.{Way, looks, finds, stops, reads, passing, hasChild, follow, Lookup, found, refused, lookedUp, findPath, steps, EachLooked, SameNode, foundNumber, foundValues}
 
 module _ (words others : List ℕ) (size : length words / 4 ≡ length others / 4) where
   abbrev Same : Way → Type 0
@@ -25,15 +25,15 @@ module _ (words others : List ℕ) (size : length words / 4 ≡ length others / 
       (λ t. let (here, more) = rw t at s in rw (← size, t) (ap (looks i) (on here more)))
       (λ f. rw (← size, f))
 
-  past-same : (k i : ℕ) (on to : ℕ → Way) → Same (past words k i on) → ((j : ℕ) → Same (on j) → on j ≡ to j) → past words k i on ≡ past others k i to
-  unfolding past
-  past-same zero i on to s next = next i s
-  past-same (suc k) i on to s next =
+  passing-same : (k i : ℕ) (on to : ℕ → Way) → Same (passing words k i on) → ((j : ℕ) → Same (on j) → on j ≡ to j) → passing words k i on ≡ passing others k i to
+  unfolding passing
+  passing-same zero i on to s next = next i s
+  passing-same (suc k) i on to s next =
       reads-same i _ _ s
       (λ here more.
       split (eqb (span words i) 0)
       (λ t. rw (← here .spans, t))
-      (λ f. rw (← here .spans, f) (past-same k (i + span words i) on to (rw f at more) next)))
+      (λ f. rw (← here .spans, f) (passing-same k (i + span words i) on to (rw f at more) next)))
 
   follow-same : (path : List ℕ) (i : ℕ) → Same (follow words i path) → follow words i path ≡ follow others i path
   unfolding follow
@@ -42,13 +42,13 @@ module _ (words others : List ℕ) (size : length words / 4 ≡ length others / 
       reads-same i _ _ s
       (λ here more.
       split (hasChild words i k)
-      (λ t. rw (← here .kinds, ← here .firsts, t) (past-same k (i + 1) _ _ (rw t at more) (follow-same path)))
+      (λ t. rw (← here .kinds, ← here .firsts, t) (passing-same k (i + 1) _ _ (rw t at more) (follow-same path)))
       (λ f. rw (← here .kinds, ← here .firsts, f)))
 
   -- tables of one size that agree on the nodes looked at, up to the node found or to the refusal, give the same answer: no other word is read
   pub unread : (text path : List ℕ) → Same (follow words 0 path) → findPath words text path ≡ findPath others text path
   unfolding findPath
-  unread text path s = ap (λ (w : Way). cond (ltb longest (length text)) (refused 13) (counted 0 w)) (follow-same path 0 s)
+  unread text path s = ap (λ (w : Way). cond (ltb longest (length text)) (refused 13) (lookedUp 0 w)) (follow-same path 0 s)
 
 -- of the text only its length is looked at
 pub any-text : (words text other path : List ℕ) → length text ≤ longest → length other ≤ longest → findPath words text path ≡ findPath words other path
@@ -61,8 +61,8 @@ unfound : {C : Type 0} {r j n : ℕ} → 0 < r → refused r ≡ found j n → C
 unfound h e = absurd (omega (arith, ap foundNumber e))
 
 module _ (words : List ℕ) (j n : ℕ) where
-  reads-found : {C : Type 0} (m i : ℕ) (w : Way) → counted m (reads words i w) ≡ found j n → (i < length words / 4 → counted (m + 1) w ≡ found j n → C) → C
-  unfolding counted
+  reads-found : {C : Type 0} (m i : ℕ) (w : Way) → lookedUp m (reads words i w) ≡ found j n → (i < length words / 4 → lookedUp (m + 1) w ≡ found j n → C) → C
+  unfolding lookedUp
   reads-found m i w h on =
       split (ltb i (length words / 4)) (λ t. on (ltb-true i (length words / 4) t) (rw t at h)) (λ f. unfound (omega arith) (rw f at h))
 
@@ -72,21 +72,21 @@ module _ (words : List ℕ) (j n : ℕ) where
     forward : i + count ≤ j + 1
     within : j < length words / 4
 
-  past-found :
-      (k m i c : ℕ) (on : ℕ → Way) → counted m (past words k i on) ≡ found j n → ((m i : ℕ) → counted m (on i) ≡ found j n → Looked m i c) → Looked m i (k + c)
-  unfolding past counted
-  past-found zero m i c on h next = let l = next m i h in record { number = omega (arith, l .number); forward = omega (arith, l .forward); within = l .within }
-  past-found (suc k) m i c on h next =
+  passing-found :
+      (k m i c : ℕ) (on : ℕ → Way) → lookedUp m (passing words k i on) ≡ found j n → ((m i : ℕ) → lookedUp m (on i) ≡ found j n → Looked m i c) → Looked m i (k + c)
+  unfolding passing lookedUp
+  passing-found zero m i c on h next = let l = next m i h in record { number = omega (arith, l .number); forward = omega (arith, l .forward); within = l .within }
+  passing-found (suc k) m i c on h next =
       reads-found m i _ h
       (λ inside more.
       split (eqb (span words i) 0) (λ t. unfound (omega arith) (rw t at more))
       (λ f.
       let z = eqb-false (span words i) 0 f in
-      let l = past-found k (m + 1) (i + span words i) c on (rw f at more) next in
+      let l = passing-found k (m + 1) (i + span words i) c on (rw f at more) next in
       record { number = omega (arith, l .number); forward = omega (arith, l .forward, z); within = l .within }))
 
-  follow-found : (path : List ℕ) (m i : ℕ) → counted m (follow words i path) ≡ found j n → Looked m i (1 + steps path)
-  unfolding follow counted steps
+  follow-found : (path : List ℕ) (m i : ℕ) → lookedUp m (follow words i path) ≡ found j n → Looked m i (1 + steps path)
+  unfolding follow lookedUp steps
   follow-found [] m i h =
       reads-found m i _ h
       (λ inside e.
@@ -98,7 +98,7 @@ module _ (words : List ℕ) (j n : ℕ) where
       (λ inside more.
       split (hasChild words i k)
       (λ t.
-      let l = past-found k (m + 1) (i + 1) (1 + steps path) _ (rw t at more) (follow-found path) in
+      let l = passing-found k (m + 1) (i + 1) (1 + steps path) _ (rw t at more) (follow-found path) in
       record { number = omega (arith, l .number); forward = omega (arith, l .forward); within = l .within })
       (λ f. unfound (omega arith) (rw f at more)))
 

@@ -16,12 +16,12 @@ use Rattle.sise_tree.specs.ParseTree.{longest}
 use Rattle.sise_tree.specs.Decision.{decide}
 use Rattle.sise_tree.specs.Answers.{answered, numberOf}
 use Rattle.sise_tree.specs.IndexPath.{nodeAt, childAt, indexed, indexPath}
-use Rattle.sise_tree.specs.FindPath.{looks, finds, stops, past, hasChild, follow, Lookup, found, refused, counted, findPath, steps, withCount}
+use Rattle.sise_tree.specs.FindPath.{looks, finds, stops, passing, hasChild, follow, Lookup, found, refused, lookedUp, findPath, steps, withCount}
 use Rattle.sise_tree.proofs.TreeLaws.{sits-kind, length-table, size-pos, holds-words}
 use Rattle.sise_tree.proofs.DecisionLaws.{decide-sound}
 use Rattle.sise_tree.proofs.LocalLaws.{stands, skip, node-local, held, sound-decides}
 use Rattle.sise_tree.proofs.PathLaws.{node-here, no-child}
-use Rattle.sise_tree.proofs.FindLaws.{read-inside, past-one, follow-none, follow-child}
+use Rattle.sise_tree.proofs.FindLaws.{read-inside, passing-one, follow-none, follow-child}
 
 -- what the full lookup finds, and the number of nodes looked at
 abbrev reached : Option ℕ → ℕ → Lookup
@@ -37,13 +37,13 @@ module _ (l words : List ℕ) where
   abbrev Follows : List ℕ → Type 0
   Follows path =
       (d : ℕ) (n : Node) (i m : ℕ) (rest : List ℕ) → drop (4 * i) words ≡ tableAt d n ++ rest → lies l n ≡ true
-      → counted m (follow words i path) ≡ reached (nodeAt n i path) (m + (1 + steps path))
+      → lookedUp m (follow words i path) ≡ reached (nodeAt n i path) (m + (1 + steps path))
 
   -- and so from the k-th of the nodes in a row
   follows-row :
       (path : List ℕ) → Follows path → (k d : ℕ) (c : Nodes) (i m : ℕ) (rest : List ℕ) → drop (4 * i) words ≡ tables d c ++ rest → liesAll l c ≡ true
-      → k < children c → counted m (past words k i (λ j. follow words j path)) ≡ reached (childAt c i k path) (m + (k + (1 + steps path)))
-  unfolding past counted childAt tables liesAll children
+      → k < children c → lookedUp m (passing words k i (λ j. follow words j path)) ≡ reached (childAt c i k path) (m + (k + (1 + steps path)))
+  unfolding passing lookedUp childAt tables liesAll children
   follows-row path on zero d empty i m rest e t h = absurd (omega arith)
   follows-row path on (suc k) d empty i m rest e t h = absurd (omega arith)
   follows-row path on zero d (n then c) i m rest e t h =
@@ -54,20 +54,20 @@ module _ (l words : List ℕ) where
       let e′ : drop (4 * i) words ≡ tableAt d n ++ after = rw append-assoc at e in
       let spans = node-local l words d n i after e′ (and-first _ _ t) .0 in
       let next = follows-row path on k (d + size n) c (i + size n) (m + 1) rest (skip words d n i after e′) (and-second (lies l n) _ t) (omega arith) in
-      let one = past-one words (suc k) (λ j. follow words j path) (inside d n i after e′) (omega arith) (λ (z : span words i ≡ 0). omega (arith, size-pos n, spans, z)) in
+      let one = passing-one words (suc k) (λ j. follow words j path) (inside d n i after e′) (omega arith) (λ (z : span words i ≡ 0). omega (arith, size-pos n, spans, z)) in
       let less : suc k - 1 ≡ k = omega arith in
       let count : m + (suc k + (1 + steps path)) ≡ m + 1 + (k + (1 + steps path)) = omega arith in
-      ap (counted m) one ∙ rw (less, spans, count) next
+      ap (lookedUp m) one ∙ rw (less, spans, count) next
 
   follows : (path : List ℕ) → Follows path
-  unfolding follow counted nodeAt steps tableAt lies
+  unfolding follow lookedUp nodeAt steps tableAt lies
   follows [] d n i m rest e t =
       let z : m + (1 + 0) ≡ m + 1 = omega arith in
-      rw (node-here n i, z) (ap (counted m) (read-inside words _ (inside d n i rest e)))
+      rw (node-here n i, z) (ap (lookedUp m) (read-inside words _ (inside d n i rest e)))
   follows (k ∷ path) d (atom w p q) i m rest e t =
       let s = stands words i e in
       let other : eqb (kind words i) 0 ≡ false = ne-eqb (kind words i) 0 (λ (z : kind words i ≡ 0). sits-kind l w p q t (sym (s .kinds) ∙ z)) in
-      ap (counted m) (follow-none words k path (inside d (atom w p q) i rest e) (rw other))
+      ap (lookedUp m) (follow-none words k path (inside d (atom w p q) i rest e) (rw other))
   follows (k ∷ path) d (list c) i m rest e t =
       let s = stands words i e in
       let here = inside d (list c) i rest e in
@@ -75,11 +75,11 @@ module _ (l words : List ℕ) where
       (λ y.
       let less = ltb-true k (children c) y in
       let count : m + (1 + (k + 1 + steps path)) ≡ m + 1 + (k + (1 + steps path)) = omega arith in
-      ap (counted m) (follow-child words k path here (rw (s .kinds, s .firsts) y))
+      ap (lookedUp m) (follow-child words k path here (rw (s .kinds, s .firsts) y))
       ∙ rw count (follows-row path (follows path) k 1 c (i + 1) (m + 1) rest (s .after) t less))
       (λ y.
       let more = ltb-false k (children c) y in
-      ap (counted m) (follow-none words k path here (rw (s .kinds, s .firsts) y)) ∙ rw (no-child c (i + 1) k path more))
+      ap (lookedUp m) (follow-none words k path here (rw (s .kinds, s .firsts) y)) ∙ rw (no-child c (i + 1) k path more))
 
 module _ (words text path : List ℕ) where
   counts : (o : Option ℕ) → reached o (1 + steps path) ≡ withCount path (indexed o)

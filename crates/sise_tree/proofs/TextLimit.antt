@@ -24,7 +24,7 @@ use Rattle.sise_tree.specs.Answers.{answered, refusedWith}
 use Rattle.sise_tree.specs.ParseTree.{longest, top, attach, turn, got, readStage, readAnswer, readFrom, readNode, filledWith, Parses, parsed, parseTree}
 use Rattle.sise_tree.specs.ParseText.{parses, textRead, parseText}
 use Rattle.sise_tree.specs.IndexPath.{indexedIn, indexPath}
-use Rattle.sise_tree.specs.FindPath.{follow, refused, counted, findPath}
+use Rattle.sise_tree.specs.FindPath.{follow, refused, lookedUp, findPath}
 
 module _ (text : List ℕ) (at : length text ≡ 16777216) where
   pub not-over : ltb longest (length text) ≡ false
@@ -42,7 +42,7 @@ module _ (text : List ℕ) (at : length text ≡ 16777216) where
   unfolding indexPath
   path-at words path = rw not-over
 
-  pub find-at : (words path : List ℕ) → findPath words text path ≡ counted 0 (follow words 0 path)
+  pub find-at : (words path : List ℕ) → findPath words text path ≡ lookedUp 0 (follow words 0 path)
   unfolding findPath
   find-at words path = rw not-over
 

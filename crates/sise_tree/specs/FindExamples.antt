@@ -6,7 +6,7 @@ use mathlib.Core.List.{List, [], _∷_}
 use lib.ListN.{take}
 use Rattle.sise_parser.specs.Examples.{workedText as text}
 use Rattle.sise_tree.specs.TableExamples.{words}
-use Rattle.sise_tree.specs.FindPath.{past, follow, counted, found, refused, findPath}
+use Rattle.sise_tree.specs.FindPath.{passing, follow, lookedUp, found, refused, findPath}
 
 record Trees : Type 0 where
   -- "the root"
@@ -21,7 +21,7 @@ record Trees : Type 0 where
   oneTwo : findPath words text (1 ∷ 2 ∷ []) ≡ refused 16
 
 trees : Trees
-unfolding text findPath follow past counted
+unfolding text findPath follow passing lookedUp
 trees = record { emptyPath = refl; first = refl; third = refl; oneOne = refl; three = refl; zeroZero = refl; oneTwo = refl }
 
 -- a list that says it has three children, whose third child's words are cut off after n words in all
@@ -58,7 +58,7 @@ record Others : Type 0 where
   farPastTable : findPath (pair 1 4294967295) [] (1 ∷ []) ≡ refused 15
 
 others : Others
-unfolding findPath follow past counted
+unfolding findPath follow passing lookedUp
 others =
     record {
       noWords = refl;

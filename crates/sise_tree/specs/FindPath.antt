@@ -24,9 +24,9 @@ reads words i w = cond (ltb i (length words / 4)) (looks i w) (stops 15)
 
 -- "steps past a child by its fourth word", 15 "where the word to step by is 0": past so many children, the first of which is node i, to the node from
 -- which the way goes on
-unfoldable pub past : List ℕ → ℕ → ℕ → (ℕ → Way) → Way
-past words zero i on = on i
-past words (suc k) i on = reads words i (cond (eqb (span words i) 0) (stops 15) (past words k (i + span words i) on))
+unfoldable pub passing : List ℕ → ℕ → ℕ → (ℕ → Way) → Way
+passing words zero i on = on i
+passing words (suc k) i on = reads words i (cond (eqb (span words i) 0) (stops 15) (passing words k (i + span words i) on))
 
 -- node i is a list, "takes each first word but 0 for an atom", and the index k is below its children word
 abbrev pub hasChild : List ℕ → ℕ → ℕ → Bool
@@ -36,7 +36,7 @@ hasChild words i k = eqb (kind words i) 0 && ltb k (first words i)
 -- no further node read"
 unfoldable pub follow : List ℕ → ℕ → List ℕ → Way
 follow words i [] = reads words i (finds i)
-follow words i (k ∷ path) = reads words i (cond (hasChild words i k) (past words k (i + 1) (λ j. follow words j path)) (stops 16))
+follow words i (k ∷ path) = reads words i (cond (hasChild words i k) (passing words k (i + 1) (λ j. follow words j path)) (stops 16))
 
 -- what is answered: a node's index "with the number of nodes looked at", or the number of a refusal, which "carries no number of nodes"
 pub data Lookup : Type 0 where
@@ -44,14 +44,14 @@ pub data Lookup : Type 0 where
   refused : ℕ → Lookup
 
 -- at the end of a way, before which n nodes were looked at
-unfoldable pub counted : ℕ → Way → Lookup
-counted n (looks i w) = counted (n + 1) w
-counted n (finds i) = found i n
-counted n (stops r) = refused r
+unfoldable pub lookedUp : ℕ → Way → Lookup
+lookedUp n (looks i w) = lookedUp (n + 1) w
+lookedUp n (finds i) = found i n
+lookedUp n (stops r) = refused r
 
 -- "13 comes first"; then "the root"
 unfoldable pub findPath : List ℕ → List ℕ → List ℕ → Lookup
-findPath words text path = cond (ltb longest (length text)) (refused 13) (counted 0 (follow words 0 path))
+findPath words text path = cond (ltb longest (length text)) (refused 13) (lookedUp 0 (follow words 0 path))
 
 -- "the sum of (index + 1) over the path"
 unfoldable pub steps : List ℕ → ℕ
