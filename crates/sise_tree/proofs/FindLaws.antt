@@ -4,16 +4,16 @@
 use Prim.Native.Nat.{ℕ, zero, suc, _+_, _-_, _/_, _≤_, _<_}
 use native.Mathlib.Numerals.{add-one}
 use native.Mathlib.Omega.{arith}
-use mathlib.Core.Path.{_≡_, refl, sym, ap, _∙_}
+use mathlib.Core.Path.{_≡_, sym, ap, _∙_}
 use mathlib.Core.Bool.{true, false}
 use mathlib.Core.List.{List, [], _∷_}
-use lib.Dec.{ltb, eqb}
+use lib.Dec.{eqb}
 use lib.ListN.{length, getD, drop, drop-of-length-le}
 use lib.Seq.{drop-cons}
-use borrow.Author.Tests.{lt-ltb, le-ltb, eq-eqb, ne-eqb}
+use borrow.Author.Tests.{lt-ltb, le-ltb, ne-eqb}
 use Rattle.sise_tree.specs.Tree.{kind, first, span}
 use Rattle.sise_tree.specs.ParseTree.{longest}
-use Rattle.sise_tree.specs.FindPath.{Way, looks, finds, stops, reads, passing, hasChild, follow, Lookup, found, refused, lookedUp, findPath}
+use Rattle.sise_tree.specs.FindPath.{Way, looks, stops, reads, passing, hasChild, follow, found, refused, lookedUp, findPath}
 
 module _ (words : List ℕ) {i : ℕ} where
   pub read-inside : (w : Way) → i < length words / 4 → reads words i w ≡ looks i w

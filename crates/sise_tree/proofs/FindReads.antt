@@ -1,18 +1,18 @@
 -- What a lookup reads: tables that agree on the nodes looked at give the same answer, whatever their other words are, and a found node's number of nodes
 -- looked at is that of its path.
 -- Assumes nothing.
-use Prim.Native.Nat.{ℕ, zero, suc, _+_, _-_, _/_, _≤_, _<_}
+use Prim.Native.Nat.{ℕ, zero, suc, _+_, _/_, _≤_, _<_}
 use native.Mathlib.Omega.{arith}
-use mathlib.Core.Path.{_≡_, refl, sym, ap, _∙_}
-use mathlib.Core.Bool.{Bool, true, false, cond}
+use mathlib.Core.Path.{_≡_, refl, ap}
+use mathlib.Core.Bool.{cond}
 use mathlib.Core.List.{List, [], _∷_}
 use lib.Dec.{ltb, eqb}
 use lib.ListN.{length, getD}
 use borrow.Author.Tests.{le-ltb, ltb-true, eqb-false}
 use Rattle.sise_util.proofs.Ranges.{split}
-use Rattle.sise_tree.specs.Tree.{kind, first, span}
+use Rattle.sise_tree.specs.Tree.{span}
 use Rattle.sise_tree.specs.ParseTree.{longest}
-use Rattle.sise_tree.specs.FindPath.{Way, looks, finds, stops, reads, passing, hasChild, follow, Lookup, found, refused, lookedUp, findPath, steps, EachLooked, SameNode, foundNumber, foundValues}
+use Rattle.sise_tree.specs.FindPath.{Way, looks, reads, passing, hasChild, follow, Lookup, found, refused, lookedUp, findPath, steps, EachLooked, SameNode, foundNumber, foundValues}
 
 module _ (words others : List ℕ) (size : length words / 4 ≡ length others / 4) where
   abbrev Same : Way → Type 0

@@ -1,7 +1,7 @@
 -- On a table that holds a tree, the lookup that reads only the nodes on the way answers as the one that tests the whole table: there each child's fourth
 -- word is its size, so that stepping past it leads to the next.
 -- Assumes nothing.
-use Prim.Native.Nat.{ℕ, zero, suc, _+_, _-_, _*_, _/_, _≤_, _<_}
+use Prim.Native.Nat.{ℕ, zero, suc, _+_, _-_, _*_, _/_, _<_}
 use native.Mathlib.Omega.{arith}
 use mathlib.Core.Path.{_≡_, refl, sym, ap, _∙_}
 use mathlib.Core.Bool.{true, false}
@@ -9,14 +9,14 @@ use mathlib.Core.Option.{Option, none, some}
 use mathlib.Core.List.{List, [], _∷_, _++_, append-assoc}
 use lib.Dec.{ltb, eqb}
 use lib.ListN.{length, drop, length-append, length-drop}
-use borrow.Author.Tests.{ltb-true, ltb-false, lt-ltb, le-ltb, eq-eqb, ne-eqb}
+use borrow.Author.Tests.{ltb-true, ltb-false, ne-eqb}
 use Rattle.sise_util.proofs.Ranges.{split, and-first, and-second}
-use Rattle.sise_tree.specs.Tree.{Node, atom, list, Nodes, empty, _then_, size, children, tableAt, tables, lies, liesAll, kind, first, second, span, HoldsTree}
+use Rattle.sise_tree.specs.Tree.{Node, atom, list, Nodes, empty, _then_, size, children, tableAt, tables, lies, liesAll, kind, second, span, HoldsTree}
 use Rattle.sise_tree.specs.ParseTree.{longest}
 use Rattle.sise_tree.specs.Decision.{decide}
 use Rattle.sise_tree.specs.Answers.{answered, numberOf}
 use Rattle.sise_tree.specs.IndexPath.{nodeAt, childAt, indexed, indexPath}
-use Rattle.sise_tree.specs.FindPath.{looks, finds, stops, passing, hasChild, follow, Lookup, found, refused, lookedUp, findPath, steps, withCount}
+use Rattle.sise_tree.specs.FindPath.{passing, follow, Lookup, found, refused, lookedUp, findPath, steps, withCount}
 use Rattle.sise_tree.proofs.TreeLaws.{sits-kind, length-table, size-pos, holds-words}
 use Rattle.sise_tree.proofs.DecisionLaws.{decide-sound}
 use Rattle.sise_tree.proofs.LocalLaws.{stands, skip, node-local, held, sound-decides}
