@@ -26,6 +26,16 @@ extern "C" {
         values: *mut u64,
     ) -> u32;
 
+    pub fn sise_find_path(
+        table: *const u32,
+        table_len: usize,
+        text: *const u8,
+        text_len: usize,
+        path: *const u64,
+        path_len: usize,
+        values: *mut u64,
+    ) -> u32;
+
     pub fn sise_serialize_tree(
         line_break: *const u8,
         line_break_len: usize,

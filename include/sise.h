@@ -19,9 +19,10 @@
  *
  * Results. A call that returns uint32_t returns 0, or a refusal's number (below); of a refusal nothing is written but `values`.
  * Only sise_atom_kind, which refuses nothing, returns a kind there. `values` are two words, which a call that takes them always
- * writes. Where it is not refused, values[0] is what it answers and values[1] is 0. Of a refusal in the text (1 to 8), values[0]
- * is the place, a byte's offset from 0, and values[1] the code point found there (of 1 to 3, else 0). Of any other refusal both
- * are 0. Where a call has several reasons to refuse, it gives the first in the order that is said of it.
+ * writes. Where it is not refused, values[0] is what it answers and values[1] is 0; only sise_find_path answers in both. Of a
+ * refusal in the text (1 to 8), values[0] is the place, a byte's offset from 0, and values[1] the code point found there (of 1
+ * to 3, else 0). Of any other refusal both are 0. Where a call has several reasons to refuse, it gives the first in the order
+ * that is said of it.
  *
  * From fault to fault. The place of 1, 2, 3 and 8 is that of a character's first byte. A character that is cut off or broken
  * is one fault, as in an editor: it has the bytes from there on that are a start of a well-formed character, at least one, and
@@ -39,8 +40,8 @@
  * A list's parent is the list that it stands in: if the list is node i and its distance d, the parent is node i - d. The text's
  * own list has no parent, and 0 there. A table has no text of its own: the calls want the text beside it. In the first node that
  * is lent the distance is not looked at, and neither are the words after that node's own, so the subtree of node i is the table
- * from word 4 * i on. The tree calls look at the whole table before they trust it, whoever wrote it. A text of n bytes has at
- * most n nodes: 4 * n words are always enough. Lists may nest as deep as the text is long.
+ * from word 4 * i on. The tree calls but sise_find_path look at the whole table before they trust it, whoever wrote it. A text
+ * of n bytes has at most n nodes: 4 * n words are always enough. Lists may nest as deep as the text is long.
  */
 #ifndef SISE_H
 #define SISE_H
@@ -116,6 +117,22 @@ uint32_t sise_parse_tree(const uint8_t *text, size_t text_len, uint32_t *table, 
  */
 uint32_t sise_index_path(const uint32_t *table, size_t table_len, const uint8_t *text, size_t text_len, const uint64_t *path,
                          size_t path_len, uint64_t values[2]);
+
+/*
+ * Finds the same node, but reads only the nodes on the way to it: the first, then at each list its children up to the wanted
+ * one. Answers the node's index in values[0], and in values[1] the number of nodes looked at: 1, and s + 1 for each step s.
+ * Which of the two to take: sise_index_path looks at every node of the table and at the bytes of every atom before it answers,
+ * so it takes a table from anyone, and its time grows with the table. sise_find_path does not test the table: it is for one
+ * that sise_parse_tree has filled or another tree call has accepted, and that nobody has changed since. There both find the
+ * same, and the time of this one grows with values[1] alone, which is at most the index + 1. In any other table it follows the
+ * words as they stand, inside the table, and what it finds may be no node of a tree: each first word but 0 is an atom's, a
+ * child is passed by its fourth word, and third words are not looked at. Of the text only the length is looked at.
+ * Refused: 13; then whichever is met first on the way: 15, where a node to be read is not whole inside the table, or a child is
+ * to be passed by 0 nodes; 16, where a step goes into an atom, or its number is not below the list's number of children, of
+ * which none is read then.
+ */
+uint32_t sise_find_path(const uint32_t *table, size_t table_len, const uint8_t *text, size_t text_len, const uint64_t *path,
+                        size_t path_len, uint64_t values[2]);
 
 /*
  * Writes the tree of the table's first node to the start of the buffer; the bytes after it stay as they are. Answers the

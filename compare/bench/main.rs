@@ -315,6 +315,37 @@ fn tree_indexed(name: &str, text: &str, path: &[usize]) {
     );
 }
 
+/// The same path so many times by the lookup that reads only the nodes on the way.
+fn tree_found(name: &str, text: &str, path: &[usize], times: u32) {
+    let trees = Trees::new(text);
+    let words: Vec<u64> = path.iter().map(|&step| step as u64).collect();
+    assert!(trees.index_by_crate(path).is_some());
+    assert_eq!(
+        trees.find_by_library(&words),
+        trees.index_by_library(&words)
+    );
+    let mut best = (f64::MAX, f64::MAX);
+    for _ in 0..ROUNDS {
+        best.0 = best.0.min(seconds(|| {
+            (0..times)
+                .map(|_| trees.find_by_library(std::hint::black_box(&words)))
+                .sum::<u64>()
+        }));
+        best.1 = best.1.min(seconds(|| {
+            (0..times)
+                .filter(|_| trees.index_by_crate(std::hint::black_box(path)).is_some())
+                .count()
+        }));
+    }
+    let (library, original) = best;
+    println!(
+        "{name:<28} {:>10} bytes {:>8.3} us {:>10.4}",
+        text.len(),
+        library * 1e6 / f64::from(times),
+        original / library
+    );
+}
+
 fn trees(size: usize) {
     println!(
         "{:<28} {:>16} {:>13} {:>8}",
@@ -339,6 +370,11 @@ fn trees(size: usize) {
     tree_written("written, 5,000 deep", &deeper, usize::MAX);
     tree_indexed("path, typical profile", &profile, &[1, 4, 2, 1]);
     tree_indexed("path, 10 kB", &typical(10_000), &[1, 4, 2, 1]);
+    tree_found("found, typical profile", &profile, &[1, 4, 2, 1], 1_000);
+    tree_found("found, 10 kB", &typical(10_000), &[1, 4, 2, 1], 1_000);
+    let wide = format!("({})", "a ".repeat(100_000));
+    tree_indexed("path, last of 100,000", &wide, &[99_999]);
+    tree_found("found, last of 100,000", &wide, &[99_999], 1);
 }
 
 fn atoms() {

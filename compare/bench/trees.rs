@@ -1,7 +1,8 @@
 //! Trees: the same text by the library's tree calls and by the crate's.
 
 use crate::exported::{
-    sise_commit_tree, sise_index_path, sise_measure_tree, sise_parse_tree, sise_serialize_tree,
+    sise_commit_tree, sise_find_path, sise_index_path, sise_measure_tree, sise_parse_tree,
+    sise_serialize_tree,
 };
 use crate::parse_tree::parse_tree;
 use crate::serialize_tree::serialize_tree;
@@ -137,6 +138,22 @@ impl<'a> Trees<'a> {
         let (table, text) = (&self.table, self.text);
         answered(|values| unsafe {
             sise_index_path(
+                table.as_ptr(),
+                table.len(),
+                text.as_ptr(),
+                text.len(),
+                path.as_ptr(),
+                path.len(),
+                values,
+            )
+        })
+    }
+
+    /// The lookup that does not test the table.
+    pub fn find_by_library(&self, path: &[u64]) -> u64 {
+        let (table, text) = (&self.table, self.text);
+        answered(|values| unsafe {
+            sise_find_path(
                 table.as_ptr(),
                 table.len(),
                 text.as_ptr(),

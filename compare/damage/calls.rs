@@ -2,7 +2,7 @@
 
 use crate::answers::{refused, Reported};
 use crate::exported::{
-    sise_atom_kind, sise_check_atom, sise_commit_tree, sise_count_items, sise_index_path,
+    sise_atom_kind, sise_check_atom, sise_commit_tree, sise_count_items, sise_find_path, sise_index_path,
     sise_measure_tree, sise_parse_tree, sise_read_items, sise_serialize_tree, sise_write_calls,
     sise_write_calls_singly,
 };
@@ -64,6 +64,10 @@ pub struct Calls {
     answers: Region,
     values: Region,
 }
+
+/// A call that follows a path.
+type LookUp =
+    unsafe extern "C" fn(*const u32, usize, *const u8, usize, *const u64, usize, *mut u64) -> u32;
 
 /// Two words that no call reports.
 const BEFORE: [u64; 2] = [u64::MAX; 2];
@@ -129,13 +133,28 @@ impl Calls {
     }
 
     pub fn index_path(&mut self, text: &[u8], table: &[u32], path: &[u64], edge: Edge) -> Reported {
+        self.look_up(sise_index_path, text, table, path, edge)
+    }
+
+    pub fn find_path(&mut self, text: &[u8], table: &[u32], path: &[u64], edge: Edge) -> Reported {
+        self.look_up(sise_find_path, text, table, path, edge)
+    }
+
+    fn look_up(
+        &mut self,
+        call: LookUp,
+        text: &[u8],
+        table: &[u32],
+        path: &[u64],
+        edge: Edge,
+    ) -> Reported {
         self.made += 1;
         let text = self.text.lend(text, edge);
         let table = self.table.lend(table, edge);
         let path = self.words.lend(path, edge);
         let values = self.values.lend(&BEFORE, edge);
         let number = unsafe {
-            sise_index_path(
+            call(
                 table.first(),
                 table.len(),
                 text.first(),

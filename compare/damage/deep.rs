@@ -127,6 +127,19 @@ impl Deep {
                 reported.answer(self.text.len())? == expected,
                 "index_path: deep lists",
             )?;
+            let found = self.timed("found", || {
+                calls.find_path(&self.text, table, &path[..steps], Edge::End)
+            });
+            let seen = 1 + steps as u64 * (self.step + 1);
+            let values = if found.number == 0 {
+                [expected, seen]
+            } else {
+                [0; 2]
+            };
+            ensure(
+                found.number == reported.number && found.values == values,
+                "find_path: deep lists",
+            )?;
         }
         Ok(())
     }

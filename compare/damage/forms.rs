@@ -1,4 +1,5 @@
-//! What a table holds, by document 01's rules, request 2.6's for the third word of a list and request 2.3's for the first word of an atom.
+//! What a table holds, by document 01's rules, request 2.6's for the third word of a list and request 2.3's for the first word of an atom; and which nodes
+//! of it a lookup looks at.
 
 use crate::atoms::{is_atom, may_be};
 
@@ -66,4 +67,34 @@ pub fn node_at(tree: &[u32], path: &[u64]) -> Option<u64> {
         }
     }
     Some(node as u64)
+}
+
+/// How the lookup of request 2.8 goes along a path, by the words as they stand: the nodes that it looks at, in order, and 0 or the number of its refusal.
+pub fn way(table: &[u32], path: &[u64]) -> (Vec<usize>, u32) {
+    let mut looked = Vec::new();
+    let mut node = 0;
+    let mut steps = path.iter();
+    let mut passed = 0;
+    loop {
+        let Some(words) = table[(4 * node).min(table.len())..].first_chunk::<4>() else {
+            return (looked, 15);
+        };
+        looked.push(node);
+        if passed > 0 {
+            if words[3] == 0 {
+                return (looked, 15);
+            }
+            passed -= 1;
+            node += words[3] as usize;
+            continue;
+        }
+        let Some(&step) = steps.next() else {
+            return (looked, 0);
+        };
+        if words[0] != 0 || step >= u64::from(words[1]) {
+            return (looked, 16);
+        }
+        passed = step;
+        node += 1;
+    }
 }

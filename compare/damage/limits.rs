@@ -47,6 +47,11 @@ fn tree_calls(calls: &mut Calls, text: &[u8], expected: [u64; 3]) -> Check {
         indexed.answer(text.len())? == expected[1],
         "index_path at the longest text",
     )?;
+    let found = twice(|edge| calls.find_path(text, &LIST, &[], edge))?;
+    ensure(
+        found.number == indexed.number && found.values == [0, u64::from(found.number == 0)],
+        "find_path at the longest text",
+    )?;
     let (style, buffer) = (lines(), b"before");
     let (wrote, after) =
         twice(|edge| calls.serialize_tree(&style, buffer, text, &LIST, 0, false, edge))?;

@@ -1,8 +1,9 @@
-//! `sise_index_path`, `sise_serialize_tree`, `sise_measure_tree` and `sise_commit_tree` on any table.
+//! `sise_index_path`, `sise_find_path`, `sise_serialize_tree`, `sise_measure_tree` and `sise_commit_tree` on any table.
 
-use crate::answers::{ensure, only_first, refusal, refused, twice, Check};
+use crate::answers::{ensure, only_first, refusal, refused, twice, Check, Reported};
 use crate::calls::{Calls, Measured, Size, Style};
-use crate::forms::{held, node_at, Held};
+use crate::forms::{held, node_at, way, Held};
+use crate::guard::Edge;
 use crate::limits::LONGEST;
 
 pub struct Tree {
@@ -64,8 +65,48 @@ impl Tree {
                 reported.answer(self.text.len())? == expected,
                 "index_path: the node, 15 or 16",
             )?;
+            self.check_lookup(calls, path, reported, held)?;
         }
         Ok(())
+    }
+
+    /// The lookup without a test of the table, where the one with it gives `indexed`: it goes along its way, and no other word plays a part.
+    fn check_lookup(
+        &self,
+        calls: &mut Calls,
+        path: &[u64],
+        indexed: Reported,
+        held: Held,
+    ) -> Check {
+        let (looked, number) = way(&self.table, path);
+        let found = twice(|edge| calls.find_path(&self.text, &self.table, path, edge))?;
+        let values = match looked.last() {
+            Some(&node) if number == 0 => [node as u64, looked.len() as u64],
+            _ => [0; 2],
+        };
+        ensure(
+            found == Reported { number, values },
+            "find_path: the node and the nodes looked at, 15 or 16",
+        )?;
+        if held != Held::NotATree {
+            let seen = || path.iter().map(|step| step + 1).sum::<u64>() + 1;
+            let values = match indexed.number {
+                0 => [indexed.values[0], seen()],
+                _ => [0; 2],
+            };
+            ensure(
+                found.number == indexed.number && found.values == values,
+                "find_path: on a tree as index_path, with 1 plus the sum of (index + 1)",
+            )?;
+        }
+        let mut others: Vec<u32> = self.table.iter().map(|word| !word).collect();
+        for node in looked {
+            for place in [4 * node, 4 * node + 1, 4 * node + 3] {
+                others[place] = self.table[place];
+            }
+        }
+        let again = calls.find_path(&[], &others, path, Edge::End);
+        ensure(again == found, "find_path: no other word is read")
     }
 
     fn measured(&self, calls: &mut Calls, room: usize) -> Check<Measured> {

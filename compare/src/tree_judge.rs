@@ -9,7 +9,7 @@ use crate::script::{put_record, refused};
 use crate::serializer::{Serializer, SerializerStyle};
 use crate::tree_case::{put_case, TreeCase};
 use crate::tree_model::{
-    commit_tree, held, index_path, measure_tree, opened, parse_tree, read_node,
+    commit_tree, find_path, held, index_path, measure_tree, opened, parse_tree, read_node,
     serialize_house_at, serialize_tree, Node, Parsed, Size,
 };
 use crate::writer_judge::{agree, call_original, put_line, wide};
@@ -61,7 +61,7 @@ impl TreeJudge {
             + house_thresholds(case).len()
             + COMMITS
             + 1
-            + case.paths.len();
+            + 2 * case.paths.len();
         let mut lines = Vec::new();
         let mut table = case.fresh_table();
         self.parse(case, &mut table, &mut lines);
@@ -83,7 +83,12 @@ impl TreeJudge {
         for path in &case.paths {
             let answer = index_path(tree.as_ref(), path);
             self.follow_path(case, path, answer, original.as_ref());
-            lines.extend_from_slice(indexed(answer).as_bytes());
+            let found = find_path(&table[case.first..], path);
+            if tree.is_some() {
+                self.hold(case, "find_path", found == counted(answer, path));
+            }
+            let line = format!("{} | {}\n", indexed(answer), looked_up(found));
+            lines.extend_from_slice(line.as_bytes());
         }
         lines
     }
@@ -281,9 +286,22 @@ fn measured(answer: Result<Size, u8>) -> String {
 
 fn indexed(answer: Result<usize, u8>) -> String {
     match answer {
-        Ok(index) => format!("# {index}\n"),
-        Err(number) => format!("! {number}\n"),
+        Ok(index) => format!("# {index}"),
+        Err(number) => format!("! {number}"),
     }
+}
+
+fn looked_up(answer: Result<(usize, usize), u8>) -> String {
+    match answer {
+        Ok((index, seen)) => format!("# {index} {seen}"),
+        Err(number) => format!("! {number}"),
+    }
+}
+
+/// What `find_path` gives where the table holds a tree: the answer of `index_path`, and for a node 1 plus the sum of (index + 1) over the path.
+fn counted(answer: Result<usize, u8>, path: &[u64]) -> Result<(usize, usize), u8> {
+    let seen = || 1 + path.iter().map(|&step| step as usize + 1).sum::<usize>();
+    answer.map(|index| (index, seen()))
 }
 
 fn original_style(style: Style) -> SerializerStyle<'static> {

@@ -1,5 +1,5 @@
 //! Document 01's rules for trees and their tables, as they stand there ("Trees", and the tree calls' order of refusals), with a list's third word as
-//! request 2.6 has it, and an atom's first word as request 2.3 has it.
+//! request 2.6 has it, an atom's first word as request 2.3 has it, and the lookup of request 2.8.
 
 use crate::atoms::{is_atom, kind, may_be};
 use crate::reading::{Item, Reader, Record, Refusal};
@@ -268,4 +268,27 @@ pub fn index_path(tree: Option<&Node>, path: &[u64]) -> Result<usize, u8> {
         index += 1 + children[..step].iter().map(Node::size).sum::<usize>();
     }
     Ok(index)
+}
+
+/// The index of the node at the end of the path by the words as they stand, and the number of nodes looked at: the root, then at each list its children up
+/// to the wanted one.
+pub fn find_path(words: &[u32], path: &[u64]) -> Result<(usize, usize), u8> {
+    let nodes: Vec<&[u32]> = words.chunks_exact(4).collect();
+    let mut index = 0;
+    let mut looked = vec![nodes.first().ok_or(15)?];
+    for &step in path {
+        if nodes[index][0] != 0 || step >= u64::from(nodes[index][1]) {
+            return Err(16);
+        }
+        index += 1;
+        looked.push(nodes.get(index).ok_or(15)?);
+        for _ in 0..step {
+            match nodes[index][3] {
+                0 => return Err(15),
+                span => index += span as usize,
+            }
+            looked.push(nodes.get(index).ok_or(15)?);
+        }
+    }
+    Ok((index, looked.len()))
 }

@@ -82,6 +82,9 @@ static void find_node(const uint32_t *table) {
     const uint64_t path[2] = {1, 0};
     uint32_t number = sise_index_path(table, 4 * NODES, BYTES(PROFILE), path, 2, values);
     print_result("sise_index_path", number, values);
+    values[0] = values[1] = UNTOUCHED;
+    number = sise_find_path(table, 4 * NODES, BYTES(PROFILE), path, 2, values);
+    print_result("sise_find_path", number, values);
 }
 
 static void write_table(const uint32_t *table) {

@@ -87,6 +87,15 @@ fn read_table() -> Vec<u32> {
     table
 }
 
+fn find_node(table: &[u32]) {
+    let found = sise::find_path(table, PROFILE, &[1, 0]);
+    let (number, index, seen) = match found {
+        Ok(found) => (0, found.index as u64, found.seen as u64),
+        Err(refusal) => numbers(Err(refusal)),
+    };
+    println!("sise_find_path: {number}, {index} {seen}");
+}
+
 fn write_table(table: &[u32]) {
     let mut buf = [UNTOUCHED; BUFFER];
     let written = sise::serialize_tree(STYLE, &mut buf, PROFILE, table, 9, true);
@@ -165,6 +174,7 @@ fn main() {
     let table = read_table();
     let node = sise::index_path(&table, PROFILE, &[1, 0]);
     print_result("sise_index_path", node);
+    find_node(&table);
     write_table(&table);
     commit_table(&table);
     write_house();

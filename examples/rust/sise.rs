@@ -172,6 +172,35 @@ pub fn index_path(table: &[u32], text: &[u8], path: &[u64]) -> Result<usize, Ref
     })
 }
 
+/// A node that `find_path` found: its index, and the number of nodes looked at.
+#[derive(Clone, Copy, Debug, PartialEq, Eq)]
+pub struct Found {
+    pub index: usize,
+    pub seen: usize,
+}
+
+/// The same node, where only the nodes on the way to it are read: for a table that `parse_tree` filled and nobody changed since, in which both find the
+/// same. Its time grows with the nodes looked at, that of `index_path`, which tests the table, with the table.
+pub fn find_path(table: &[u32], text: &[u8], path: &[u64]) -> Result<Found, Refusal> {
+    let mut values = [0; 2];
+    let number = unsafe {
+        raw::sise_find_path(
+            table.as_ptr(),
+            table.len(),
+            text.as_ptr(),
+            text.len(),
+            path.as_ptr(),
+            path.len(),
+            &mut values,
+        )
+    };
+    let [index, seen] = values.map(|value| value as usize);
+    match number {
+        0 => Ok(Found { index, seen }),
+        number => Err(Refusal::new(number, values)),
+    }
+}
+
 /// Writes the tree that the table holds over the text: the number of bytes written.
 pub fn serialize_tree(
     style: Style,
@@ -351,6 +380,16 @@ mod raw {
         ) -> u32;
 
         pub fn sise_index_path(
+            table: *const u32,
+            table_len: usize,
+            text: *const u8,
+            text_len: usize,
+            path: *const u64,
+            path_len: usize,
+            values: *mut [u64; 2],
+        ) -> u32;
+
+        pub fn sise_find_path(
             table: *const u32,
             table_len: usize,
             text: *const u8,

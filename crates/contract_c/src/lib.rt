@@ -3,6 +3,7 @@
 use sise_c::sise_atom_kind;
 use sise_c::sise_check_atom;
 use sise_c::sise_commit_tree;
+use sise_c::sise_find_path;
 use sise_c::sise_index_path;
 use sise_c::sise_measure_tree;
 use sise_c::sise_parse_tree;
@@ -14,9 +15,10 @@ ghost use Rattle.sise_util.specs.Atom.{isAtom, kindOf, kindNumber};
 ghost use Rattle.sise_serializer.specs.Serializer.{style};
 ghost use Rattle.sise_serializer.specs.Words.{WritesCalls};
 ghost use Rattle.sise_tree.specs.IndexPath.{indexPath};
+ghost use Rattle.sise_tree.specs.FindPath.{findPath};
 ghost use Rattle.sise_tree.specs.ParseText.{parseText};
 ghost use Rattle.sise_tree_writer.specs.Writing.{writeText};
-ghost use Rattle.sise_c.specs.Reports.{checked, Reports, sizeOf, ReportsSize, TellsCommit, WritesCommit};
+ghost use Rattle.sise_c.specs.Reports.{checked, Reports, ReportsFound, sizeOf, ReportsSize, TellsCommit, WritesCommit};
 ghost use Rattle.sise_c.specs.Items.{readItems};
 
 // What a call answers beside its result: the answer and 0, or the refusal's place and code point.
@@ -52,6 +54,13 @@ pub fn index_path(table: &[u32], text: &[u8], path: &[u64], values: &mut Values)
     ensures { λ r. ⌜ Reports (indexPath (now (table .entry)) (now (text .entry)) (now (path .entry))) r (now (values .exit)) ⌝ }
 {
     sise_index_path(table, text, path, values)
+}
+
+// Finds the node at the end of the path, where only the nodes on the way are read. The values are its index in the table and the number of nodes looked at.
+pub fn find_path(table: &[u32], text: &[u8], path: &[u64], values: &mut Values) -> u32
+    ensures { λ r. ⌜ ReportsFound (findPath (now (table .entry)) (now (text .entry)) (now (path .entry))) r (now (values .exit)) ⌝ }
+{
+    sise_find_path(table, text, path, values)
 }
 
 // Writes the tree that the table holds over the text, and a line break after it if wished. The first value is how many bytes are written.

@@ -1,6 +1,7 @@
 // Every public call of sise_tree, under the contract that it has there and with a body that only calls it: the promises of the library on one page. An
 // edit of must-fail/ puts a wrong program in the place of a body, and the contract has to refuse it.
 use sise_parser::Reader;
+use sise_tree::Found;
 use sise_tree::Held;
 use sise_tree::Indexed;
 use sise_tree::ParsedTree;
@@ -10,6 +11,7 @@ ghost use Prim.Native.Nat.{_<_, _^_};
 ghost use Rattle.sise_tree.specs.Decision.{decide};
 ghost use Rattle.sise_tree.specs.Held.{heldAs};
 ghost use Rattle.sise_tree.specs.IndexPath.{indexPath};
+ghost use Rattle.sise_tree.specs.FindPath.{findPath, foundAs, foundNumber};
 ghost use Rattle.sise_tree.specs.Answers.{indexedAs, parsedAs, numberOf, placeOf, codeOf};
 ghost use Rattle.sise_tree.specs.ParseTree.{parseTree, DoesParse};
 ghost use Rattle.sise_tree.specs.ParseText.{parseText, DoesParseText};
@@ -82,4 +84,20 @@ pub fn wide(x: u32) -> usize
     ensures small { λ r. ⌜ r < 2 ^ 32 ⌝ }
 {
     sise_tree::wide(x)
+}
+
+// ---- find.rt
+
+// The node at the end of the path, where only the nodes on the way are read: its index in the table, and the number of nodes looked at.
+pub fn find_path(table: &[u32], text: &[u8], path: &[u64]) -> Found
+    ensures { λ r. ⌜ foundAs r ≡ findPath (now (table .entry)) (now (text .entry)) (now (path .entry)) ⌝ }
+{
+    sise_tree::find_path(table, text, path)
+}
+
+// 01's number of an answer of find_path, 0 for a node.
+pub fn found_number(found: Found) -> u32
+    ensures { λ r. ⌜ r ≡ foundNumber (foundAs found) ⌝ }
+{
+    found.number()
 }

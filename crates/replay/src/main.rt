@@ -28,12 +28,12 @@
 // with the record that Q times begin_list and put_atom of `h`, at the largest threshold, left there, each later one with the record that the last
 // left; serialize_house_at at the thresholds 0 and T and serialize_house, each from the start of another such buffer; measure_tree with a third such
 // buffer's length and the first serialize_tree's record, and commit_tree three times into that buffer, each with the record that was left, with a refusal
-// of 22 for the size, with that size, and with it again; and index_path with each path.
+// of 22 for the size, with that size, and with it again; and index_path and find_path with each path.
 // Printed is the line `case`; for parse_tree the line
 //     ANSWER | position phase lists
 // where ANSWER is `# nodes` or `! number place code`, and the line of `:` and the W words, a space before each; for each writing the line of a
-// writer's call, and `= ` with the buffer's bytes up to the position, before the commits the line `% bytes breaks indents` or `! number`; for each path the
-// line `# index` or `! number`.
+// writer's call, and `= ` with the buffer's bytes up to the position, before the commits the line `% bytes breaks indents` or `! number`; for each path a
+// line with index_path's answer, `# index` or `! number`, then ` | `, and find_path's, `# index seen` or `! number`.
 //
 // At a case that is malformed, or that the script's end cuts off, the line `malformed` is printed, and nothing after it. Of a writer's case the calls
 // before the malformed one are run, and of a tree's case those of the lines before the malformed one.

@@ -23,9 +23,11 @@ use script::read_tree_line;
 use script::read_writer_case;
 use sise_parser::Reader;
 use sise_serializer::Serializer;
+use sise_tree::Found;
 use sise_tree::Indexed;
 use sise_tree::ParsedTree;
 use sise_tree::TreeRead;
+use sise_tree::find_path;
 use sise_tree::index_path;
 use sise_tree::parse_tree;
 use sise_tree_writer::Measured;
@@ -436,9 +438,21 @@ fn put_indexed(out: &mut Block, at: usize, answer: Indexed) -> usize {
     }
 }
 
-// The line of an index_path call.
-fn put_path(out: &mut Block, at: usize, answer: Indexed) -> usize {
-    let at = put_indexed(out, at, answer);
+fn put_found(out: &mut Block, at: usize, answer: Found) -> usize {
+    match answer {
+        Found::Node { index, seen } => {
+            let at = put_letter(out, at, b'#', index);
+            put_number(out, at, seen)
+        }
+        _ => put_letter(out, at, b'!', answer.number() as usize),
+    }
+}
+
+// The line of a path, which index_path and find_path follow.
+fn put_path(out: &mut Block, at: usize, tree: &[u32], text: &[u8], path: &[u64]) -> usize {
+    let at = put_indexed(out, at, index_path(tree, text, path));
+    let at = lines::put_bytes(out, at, b" | ");
+    let at = put_found(out, at, find_path(tree, text, path));
     lines::put_byte(out, at, b'\n')
 }
 
@@ -464,7 +478,7 @@ fn put_paths(
         let Numbers::Read(count, end) = read_numbers(script, from, &mut list) else {
             return Ran::Malformed { place: at };
         };
-        at = put_path(out, at, index_path(tree, text, &list[..count]));
+        at = put_path(out, at, tree, text, &list[..count]);
         from = end + 1;
     }
     Ran::Case {

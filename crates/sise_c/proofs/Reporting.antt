@@ -14,6 +14,10 @@ use Rattle.sise_tree.proofs.parse.ParsedTree as parsings
 use Rattle.sise_tree.specs.declared.tree.Indexed.{Indexed}
 use Rattle.sise_tree.specs.declared.tree.Indexed.the-variants as indexed
 use Rattle.sise_tree.proofs.tree.Indexed as indexings
+use Rattle.sise_tree.specs.FindPath.{Lookup, found, foundAs, foundNumber, foundValues}
+use Rattle.sise_tree.specs.declared.find.Found.{Found}
+use Rattle.sise_tree.specs.declared.find.Found.the-variants as lookups
+use Rattle.sise_tree.proofs.find.Found as findings
 use Rattle.sise_tree_writer.specs.declared.serialize.PutTree.{PutTree}
 use Rattle.sise_tree_writer.specs.declared.serialize.PutTree.the-variants as put
 use Rattle.sise_tree_writer.proofs.serialize.PutTree as puts
@@ -24,7 +28,7 @@ use Rattle.sise_tree_writer.specs.declared.size.Measured.{Measured}
 use Rattle.sise_tree_writer.specs.declared.size.Measured.the-variants as size
 use Rattle.sise_tree_writer.proofs.size.Measured as sizes
 use Rattle.sise_serializer.specs.declared.serializer.Serializer.{Serializer}
-use Rattle.sise_c.specs.Reports.{valuesOf, Reports, sizeOr, sizeOf, sizeWords, ReportsEnquiry}
+use Rattle.sise_c.specs.Reports.{valuesOf, Reports, ReportsFound, sizeOr, sizeOf, sizeWords, ReportsEnquiry}
 
 -- the same answer by another name
 pub reports-by : {a b : Answer} {r m : ℕ} {now : List ℕ} → a ≡ b → r ≡ m → Reports b m now → Reports a r now
@@ -46,6 +50,18 @@ indexed-refusal (indexed.Node i) k = absurd (no-zero 0 (1 ∷ 2 ∷ []) k)
 indexed-refusal indexed.TextTooLong k = record { result = refl; values = refl }
 indexed-refusal indexed.NotATree k = record { result = refl; values = refl }
 indexed-refusal indexed.NoSuchNode k = record { result = refl; values = refl }
+
+pub found-by : {a b : Lookup} {r m : ℕ} {now : List ℕ} → a ≡ b → r ≡ m → ReportsFound b m now → ReportsFound a r now
+found-by e d t = record { result = d ∙ t .result ∙ ap foundNumber (sym e); values = t .values ∙ ap foundValues (sym e) }
+
+pub found-node : {a : Lookup} {i n : ℕ} → a ≡ found i n → ReportsFound a 0 (i ∷ n ∷ [])
+found-node e = found-by e refl (record { result = refl; values = refl })
+
+pub found-refusal : (a : Found) → OneOf (1 ∷ 2 ∷ 3 ∷ []) (tagOf findings.the-type a) → ReportsFound (foundAs a) (foundNumber (foundAs a)) (0 ∷ 0 ∷ [])
+found-refusal (lookups.Node i n) k = absurd (no-zero 0 (1 ∷ 2 ∷ []) k)
+found-refusal lookups.TextTooLong k = record { result = refl; values = refl }
+found-refusal lookups.NotATree k = record { result = refl; values = refl }
+found-refusal lookups.NoSuchNode k = record { result = refl; values = refl }
 
 pub put-refusal : (n : ℕ) (a : PutTree) → OneOf (1 ∷ 2 ∷ 3 ∷ 4 ∷ 5 ∷ 6 ∷ 7 ∷ []) (tagOf puts.the-type a)
     → Reports (sizeOr n (putAs a)) (numberOf (putAs a)) (0 ∷ 0 ∷ [])

@@ -7,6 +7,7 @@ use mathlib.Core.List.{List, [], _∷_}
 use lib.ListN.{length, getD}
 use Rattle.sise_serializer.specs.Serializer.{Style, freshSerializer}
 use Rattle.sise_tree.specs.Answers.{Answer, answered, refused, numberOf}
+use Rattle.sise_tree.specs.FindPath.{Lookup, foundNumber, foundValues}
 use Rattle.sise_tree_writer.specs.SerializeTree.{Writes}
 use Rattle.sise_tree_writer.specs.Sizes.{Enquiry, adds, refuses, numberIn, enquiry, commitText}
 
@@ -23,6 +24,11 @@ valuesOf (refused e) = e .place ∷ e .code ∷ []
 pub record Reports (a : Answer) (r : ℕ) (now : List ℕ) : Type 0 where
   pub result : r ≡ numberOf a
   pub values : now ≡ valuesOf a
+
+-- the same of a lookup that also answers the number of nodes looked at
+pub record ReportsFound (a : Lookup) (r : ℕ) (now : List ℕ) : Type 0 where
+  pub result : r ≡ foundNumber a
+  pub values : now ≡ foundValues a
 
 -- where a writing answers with an offset, its size n is reported
 abbrev pub sizeOr : ℕ → Answer → Answer

@@ -8,6 +8,7 @@ use items::count_items;
 use items::fill_items;
 use report::Size;
 use report::Values;
+use report::report_found;
 use report::report_indexed;
 use report::report_measured;
 use report::report_parsed;
@@ -16,6 +17,7 @@ use report::report_refused;
 use report::size_given;
 use sise_parser::Finished;
 use sise_serializer::write_calls;
+use sise_tree::find_path;
 use sise_tree::index_path;
 use sise_tree::parse_text;
 use sise_tree_writer::commit_text;
@@ -27,9 +29,10 @@ ghost use Rattle.sise_util.specs.Atom.{isAtom, kindOf, kindNumber};
 ghost use Rattle.sise_serializer.specs.Serializer.{style};
 ghost use Rattle.sise_serializer.specs.Words.{WritesCalls};
 ghost use Rattle.sise_tree.specs.IndexPath.{indexPath};
+ghost use Rattle.sise_tree.specs.FindPath.{findPath};
 ghost use Rattle.sise_tree.specs.ParseText.{parseText};
 ghost use Rattle.sise_tree_writer.specs.Writing.{writeText};
-ghost use Rattle.sise_c.specs.Reports.{checked, Reports, sizeOf, ReportsSize, TellsCommit, WritesCommit};
+ghost use Rattle.sise_c.specs.Reports.{checked, Reports, ReportsFound, sizeOf, ReportsSize, TellsCommit, WritesCommit};
 ghost use Rattle.sise_c.specs.Items.{readItems};
 
 // Whether the bytes are an atom: 0 or 17.
@@ -70,6 +73,20 @@ pub extern "C" fn sise_index_path(
     ensures { λ r. ⌜ Reports (indexPath (now (table .entry)) (now (text .entry)) (now (path .entry))) r (now (values .exit)) ⌝ }
 {
     report_indexed(index_path(table, text, path), values)
+}
+
+// Finds the node at the end of the path as the table has it, which is not tested: only the nodes on the way are read. The values are the node's index in the
+// table and the number of nodes looked at.
+#[no_mangle]
+pub extern "C" fn sise_find_path(
+    table: &[u32],
+    text: &[u8],
+    path: &[u64],
+    values: &mut Values,
+) -> u32
+    ensures { λ r. ⌜ ReportsFound (findPath (now (table .entry)) (now (text .entry)) (now (path .entry))) r (now (values .exit)) ⌝ }
+{
+    report_found(find_path(table, text, path), values)
 }
 
 // Writes the tree that the table holds over the text to the buffer's start, and a line break after it if wished. The first value is how many bytes are written.

@@ -1,5 +1,6 @@
 // How an answer is reported: its number as the result, its values in the words that the caller lent.
 use sise_parser::ParseError;
+use sise_tree::Found;
 use sise_tree::Indexed;
 use sise_tree::ParsedTree;
 use sise_tree_writer::Measured;
@@ -9,7 +10,8 @@ ghost use Rattle.sise_parser.specs.Refusals.{refusalOf};
 ghost use Rattle.sise_tree.specs.Answers.{refused, indexedAs, parsedAs};
 ghost use Rattle.sise_tree_writer.specs.Answers.{putAs};
 ghost use Rattle.sise_tree_writer.specs.Sizes.{measuredAs};
-ghost use Rattle.sise_c.specs.Reports.{Reports, sizeOr, ReportsEnquiry, sizeGiven};
+ghost use Rattle.sise_tree.specs.FindPath.{foundAs};
+ghost use Rattle.sise_c.specs.Reports.{Reports, ReportsFound, sizeOr, ReportsEnquiry, sizeGiven};
 
 // What a call answers beside its result.
 pub type Values = [u64; 2];
@@ -22,6 +24,17 @@ pub(crate) fn report_indexed(answer: Indexed, values: &mut Values) -> u32
 {
     if let Indexed::Node(index) = answer {
         *values = [index as u64, 0];
+        return 0;
+    }
+    *values = [0, 0];
+    answer.number()
+}
+
+pub(crate) fn report_found(answer: Found, values: &mut Values) -> u32
+    ensures { λ r. ⌜ ReportsFound (foundAs answer) r (now (values .exit)) ⌝ }
+{
+    if let Found::Node { index, seen } = answer {
+        *values = [index as u64, seen as u64];
         return 0;
     }
     *values = [0, 0];

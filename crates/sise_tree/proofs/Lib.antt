@@ -8,6 +8,9 @@ pub mod AtomsHold
 pub mod HeldLaws
 pub mod WalkLaws
 pub mod PathLaws
+pub mod FindLaws
+pub mod FindTree
+pub mod FindReads
 pub mod ReadSteps
 pub mod PlainItems
 pub mod PlainKinds

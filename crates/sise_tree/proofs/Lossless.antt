@@ -11,6 +11,10 @@ use Rattle.sise_parser.specs.declared.error.ParseError.the-variants as error
 use Rattle.sise_parser.specs.declared.reader.Reader.{Reader}
 use Rattle.sise_parser.proofs.Lossless.{refusal-lossless}
 use Rattle.sise_tree.specs.Answers.{Answer, answered, refused, indexedAs, parsedAs}
+use Rattle.sise_tree.specs.FindPath as find
+use Rattle.sise_tree.specs.FindPath.{Lookup, foundAs}
+use Rattle.sise_tree.specs.declared.find.Found.{Found}
+use Rattle.sise_tree.specs.declared.find.Found.the-variants as lookup
 use Rattle.sise_tree.specs.ParseTree.{Parses, DoesParse}
 use Rattle.sise_tree.specs.declared.tree.Indexed.{Indexed}
 use Rattle.sise_tree.specs.declared.tree.Indexed.the-variants.{Node, TextTooLong, NotATree, NoSuchNode}
@@ -33,6 +37,21 @@ indexed-back NoSuchNode = refl
 
 pub indexed-lossless : (a b : Indexed) → indexedAs a ≡ indexedAs b → a ≡ b
 indexed-lossless a b d = sym (indexed-back a) ∙ ap indexedOf d ∙ indexed-back b
+
+-- ---- find_path
+
+abbrev foundOf : Lookup → Found
+foundOf (find.found i n) = lookup.Node i n
+foundOf (find.refused r) = cond (eqb r 13) lookup.TextTooLong (cond (eqb r 15) lookup.NotATree lookup.NoSuchNode)
+
+found-back : (a : Found) → foundOf (foundAs a) ≡ a
+found-back (lookup.Node i n) = refl
+found-back lookup.TextTooLong = refl
+found-back lookup.NotATree = refl
+found-back lookup.NoSuchNode = refl
+
+pub found-lossless : (a b : Found) → foundAs a ≡ foundAs b → a ≡ b
+found-lossless a b d = sym (found-back a) ∙ ap foundOf d ∙ found-back b
 
 -- ---- parse_tree and parse_text
 

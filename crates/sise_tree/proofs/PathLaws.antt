@@ -69,7 +69,7 @@ stepped-none words (suc k) i z = absurd (omega arith)
 
 -- ---- a list's child
 
-no-child : (c : Nodes) (i k : ℕ) (path : List ℕ) → children c ≤ k → childAt c i k path ≡ none
+pub no-child : (c : Nodes) (i k : ℕ) (path : List ℕ) → children c ≤ k → childAt c i k path ≡ none
 unfolding childAt children
 no-child empty i k path h = refl
 no-child (n then c) i zero path h = absurd (omega arith)
@@ -147,7 +147,7 @@ module _ (words text path : List ℕ) where
         reached n (record { distance = second words 0; rest = drop (4 * size n) words; begins = holds-words (h .holds); inText = h .holds .inText })
         (as-decided ∙ ap (λ (d : Option Node). indexedIn d path) e)
 
-node-here : (n : Node) (i : ℕ) → nodeAt n i [] ≡ some i
+pub node-here : (n : Node) (i : ℕ) → nodeAt n i [] ≡ some i
 unfolding nodeAt
 node-here (atom w p m) i = refl
 node-here (list c) i = refl

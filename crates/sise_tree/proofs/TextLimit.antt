@@ -24,6 +24,7 @@ use Rattle.sise_tree.specs.Answers.{answered, refusedWith}
 use Rattle.sise_tree.specs.ParseTree.{longest, top, attach, turn, got, readStage, readAnswer, readFrom, readNode, filledWith, Parses, parsed, parseTree}
 use Rattle.sise_tree.specs.ParseText.{parses, textRead, parseText}
 use Rattle.sise_tree.specs.IndexPath.{indexedIn, indexPath}
+use Rattle.sise_tree.specs.FindPath.{follow, refused, lookedUp, findPath}
 
 module _ (text : List ℕ) (at : length text ≡ 16777216) where
   pub not-over : ltb longest (length text) ≡ false
@@ -40,6 +41,10 @@ module _ (text : List ℕ) (at : length text ≡ 16777216) where
   pub path-at : (words path : List ℕ) → indexPath words text path ≡ indexedIn (decide text words) path
   unfolding indexPath
   path-at words path = rw not-over
+
+  pub find-at : (words path : List ℕ) → findPath words text path ≡ lookedUp 0 (follow words 0 path)
+  unfolding findPath
+  find-at words path = rw not-over
 
   -- 11, in every phase, and so before 9
   pub unsound-at : (r : Reader) (words : List ℕ) → isSound (length text) r ≡ false → parseTree text r words ≡ record { reader = r; answer = refusedWith 11; words = words }
@@ -64,6 +69,10 @@ module _ (text : List ℕ) (over : length text ≡ 16777217) where
   pub path-over : (words path : List ℕ) → indexPath words text path ≡ refusedWith 13
   unfolding indexPath
   path-over words path = rw is-over
+
+  pub find-over : (words path : List ℕ) → findPath words text path ≡ refused 13
+  unfolding findPath
+  find-over words path = rw is-over
 
 -- row 13's example, 16,777,217 spaces
 pub row-13 : (n : ℕ) → n ≡ 16777217 → (r : Reader) (words : List ℕ) → parseTree (replicate n 32) r words .answer ≡ refusedWith 13

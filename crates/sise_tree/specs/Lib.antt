@@ -5,6 +5,8 @@ pub mod Answers
 pub mod ParseTree
 pub mod ParseText
 pub mod IndexPath
+pub mod FindPath
+pub mod FindExamples
 pub mod Parts
 pub mod Descent
 pub mod TableExamples

@@ -33,7 +33,7 @@ abbrev wordsWith : ℕ → ℕ → List ℕ
 wordsWith r d = 0 ∷ 3 ∷ r ∷ 6 ∷ 1 ∷ 1 ∷ 1 ∷ 1 ∷ innerWords d
 
 -- "the worked table's third node is now 0 2 2 3"
-abbrev words : List ℕ
+abbrev pub words : List ℕ
 words = wordsWith 0 2
 
 -- the lists of `(()(()))`, the last of which stands in the one before it

@@ -57,7 +57,7 @@ pub fn wide(x: u32) -> usize
 }
 
 // Word `j` of node `i`, the first of which is word 0.
-fn word(table: &[u32], i: usize, j: usize) -> usize
+pub(crate) fn word(table: &[u32], i: usize, j: usize) -> usize
     requires { ⌜ 4 * i + j < length (now table) ⌝ }
     ensures same { λ r. ⌜ r ≡ getD (now (table .entry)) (4 * i + j) 0 ⌝ }
     ensures small { λ r. ⌜ r < 2 ^ 32 ⌝ }
@@ -66,7 +66,7 @@ fn word(table: &[u32], i: usize, j: usize) -> usize
 }
 
 // Whether node `i` is a list.
-fn is_list(table: &[u32], i: usize) -> bool
+pub(crate) fn is_list(table: &[u32], i: usize) -> bool
     requires { ⌜ i < length (now table) / 4 ⌝ }
     ensures { λ r. ⌜ r ≡ eqb (kind (now (table .entry)) i) 0 ⌝ }
 {

@@ -32,10 +32,9 @@ put-paths-spec =
     (λ c. search needs)  -- enum-told
     (λ c. search needs)  -- returns
     (λ c. let s = numbers-from _ _ _ (c .before .before .count .given .1) (c .before .before .before .before .before .read-numbers .ensures) in omega arith)  -- array-share-prefix-list
-    (λ c. let s = numbers-from _ _ _ (c .before .before .before .count .given .1) (c .before .before .before .before .before .before .read-numbers .ensures) in sym (length-take-le _ _ (omega arith)))  -- slice-aggregate-index-path
-    (λ c κs. search needs)  -- index-path-requires
+    (λ c. let s = numbers-from _ _ _ (c .before .before .before .count .given .1) (c .before .before .before .before .before .before .read-numbers .ensures) in sym (length-take-le _ _ (omega arith)))  -- slice-aggregate-put-path
     (λ c κs. search needs)  -- put-path-requires
-    (λ c. let s = numbers-from _ _ _ (c .before .before .before .before .before .count .given .1) (c .before .before .before .before .before .before .before .before .read-numbers .ensures) in omega arith)  -- add-from-2
+    (λ c. let s = numbers-from _ _ _ (c .before .before .before .before .count .given .1) (c .before .before .before .before .before .before .before .read-numbers .ensures) in omega arith)  -- add-from-2
     (λ c. search needs)  -- loop-less
-    (λ c. let s = numbers-from _ _ _ (c .before .before .before .before .before .count .given .1) (c .before .before .before .before .before .before .before .before .read-numbers .ensures) in (search needs, omega arith))  -- loop-again
+    (λ c. let s = numbers-from _ _ _ (c .before .before .before .before .count .given .1) (c .before .before .before .before .before .before .before .read-numbers .ensures) in (search needs, omega arith))  -- loop-again
     (λ c. search needs))  -- returns-2
