@@ -5,3 +5,4 @@ pub mod Passes
 pub mod Records
 pub mod Singly
 pub mod Kept
+pub mod SinglyExamples

@@ -16,7 +16,6 @@ use Rattle.sise_serializer.specs.declared.serializer.Serializer.{Serializer}
 use Rattle.sise_tree.specs.Answers.{Answer, answered, refused, refusedWith}
 use Rattle.sise_c.specs.Items.{itemWords}
 use Rattle.sise_c.specs.Records.{readerOf, readerWords, serializerOf, serializerWords}
-use Rattle.sise_c.specs.Reports.{Reports}
 
 -- ---- next_item
 
@@ -35,10 +34,13 @@ pub record Stands : Type 0 where
   pub answer : reader.Answer
   pub words : List ℕ
 
+abbrev pub stands : reader.Next → Stands
+stands n = record { answer = n .answer; words = readerWords (n .reader) }
+
 -- words that mean no record are unsound, and stay as they are
 unfoldable pub nextBy : List ℕ → List ℕ → Option Reader → Stands
 nextBy text ws none = record { answer = reader.refusedWith 11; words = ws }
-nextBy text ws (some r) = record { answer = nextItem text r .answer; words = readerWords (nextItem text r .reader) }
+nextBy text ws (some r) = stands (nextItem text r)
 
 unfoldable pub nextOf : List ℕ → List ℕ → Stands
 nextOf text ws = nextBy text ws (readerOf ws)
@@ -84,9 +86,3 @@ callBy c s ws buf (some w) = leaves buf w (step s (length buf) w c)
 
 unfoldable pub callOn : Call → Style → List ℕ → List ℕ → Leaves
 callOn c s ws buf = callBy c s ws buf (serializerOf ws)
-
--- what a call promises, that leaves d: its result r, its values, and the record's words and the buffer, which end as ws and b
-pub record DoesLeave (d : Leaves) (r : ℕ) (values ws b : List ℕ) : Type 0 where
-  pub reports : Reports (d .answer) r values
-  pub words : ws ≡ d .words
-  pub buffer : b ≡ d .buffer

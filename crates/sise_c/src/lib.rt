@@ -10,6 +10,7 @@ use items::count_items;
 use items::fill_items;
 pub use reading::sise_finish_reading;
 pub use reading::sise_next_item;
+use report::CallCount;
 use report::Values;
 use report::report_indexed;
 use report::report_parsed;
@@ -153,7 +154,7 @@ pub extern "C" fn sise_read_items(text: &[u8], words: &mut [u64], values: &mut V
     0
 }
 
-// Runs a list of writer calls, as write_calls of sise_serializer does, and returns how many bytes of the buffer are written.
+// Runs a list of writer calls, as write_calls of sise_serializer does, and returns how many bytes of the buffer are written. `ran` is how many calls ran.
 #[no_mangle]
 pub extern "C" fn sise_write_calls(
     words: &[u64],
@@ -162,7 +163,7 @@ pub extern "C" fn sise_write_calls(
     indentation: &[u8],
     buf: &mut [u8],
     answers: &mut [u64],
-    ran: &mut [u64; 1],
+    ran: &mut CallCount,
 ) -> u64
     ensures writes { λ r. ⌜ WritesCalls (style (now («line_break» .entry)) (now (indentation .entry))) (now (words .entry)) (now (atoms .entry)) (now (buf .entry)) (now (answers .entry)) r (now (buf .exit)) (now (answers .exit)) ⌝ }
     ensures ran { λ r. ⌜ now (ran .exit) ≡ length (callsOf (now (words .entry)) (now (atoms .entry)) (length (now (answers .entry)))) ∷ [] ⌝ }

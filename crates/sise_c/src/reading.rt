@@ -30,6 +30,7 @@ enum KeptReader {
     Unsound,
 }
 
+// The record with these parts.
 fn kept_in(position: usize, phase: Phase, lists: usize) -> KeptReader
     ensures { λ r. ⌜ readerAs r ≡ some (reader position phase lists) ⌝ }
 {
@@ -40,6 +41,7 @@ fn kept_in(position: usize, phase: Phase, lists: usize) -> KeptReader
     })
 }
 
+// Words mean a record if the second is a phase.
 fn reader_of(words: &ReaderWords) -> KeptReader
     ensures { λ r. ⌜ readerAs r ≡ readerOf (now (words .entry)) ⌝ }
 {
@@ -102,7 +104,7 @@ fn put_reader(reader: Reader, words: &mut ReaderWords)
     ];
 }
 
-// Reads the next item of the text.
+// Reads the next item of the text. `item` is its kind, place and length; of a refusal 0, its place and code point. The record's words are for the next call.
 #[no_mangle]
 pub extern "C" fn sise_next_item(text: &[u8], record: &mut ReaderWords, item: &mut ItemWords) -> u32
     ensures answer { λ r. ⌜ ReportsNext (nextOf (now (text .entry)) (now («record» .entry)) .answer) r (now (item .exit)) ⌝ }
@@ -120,6 +122,7 @@ pub extern "C" fn sise_next_item(text: &[u8], record: &mut ReaderWords, item: &m
     report_answer(answer, item)
 }
 
+// Whether the text ends after the last item. The record's words are of no use after it.
 #[no_mangle]
 pub extern "C" fn sise_finish_reading(text: &[u8], record: &ReaderWords, values: &mut Values) -> u32
     ensures { λ r. ⌜ Reports (finishOf (now (text .entry)) (now («record» .entry))) r (now (values .exit)) ⌝ }

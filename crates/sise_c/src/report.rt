@@ -11,6 +11,9 @@ ghost use Rattle.sise_c.specs.Reports.{Reports, sizeOr};
 // What a call answers beside its result.
 pub type Values = [u64; 2];
 
+// How many calls of a list ran.
+pub type CallCount = [u64; 1];
+
 pub(crate) fn report_indexed(answer: Indexed, values: &mut Values) -> u32
     ensures { λ r. ⌜ Reports (indexedAs answer) r (now (values .exit)) ⌝ }
 {

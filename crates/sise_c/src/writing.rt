@@ -14,7 +14,7 @@ ghost use Rattle.sise_serializer.specs.Serializer.{style, answerAs};
 ghost use Rattle.sise_c.specs.Kept.{writerAs};
 ghost use Rattle.sise_c.specs.Records.{writerPhaseWord, flagWord, serializerIn, serializerOf, serializerWords};
 ghost use Rattle.sise_c.specs.Reports.{Reports};
-ghost use Rattle.sise_c.specs.Singly.{putAnswer, callOn, DoesLeave};
+ghost use Rattle.sise_c.specs.Singly.{putAnswer, callOn};
 
 // A writer's record in words.
 pub type WriterWords = [u64; 9];
@@ -25,6 +25,7 @@ enum KeptWriter {
     Unsound,
 }
 
+// The record of these words, whose flag is 0 or 1, in a phase.
 fn kept_in(words: &WriterWords, phase: Phase) -> KeptWriter
     ensures { λ r. ⌜ writerAs r ≡ serializerIn (now (words .entry)) (some phase) (some (eqb (getD (now (words .entry)) 4 0) 1)) ⌝ }
 {
@@ -41,6 +42,7 @@ fn kept_in(words: &WriterWords, phase: Phase) -> KeptWriter
     })
 }
 
+// Words mean a record if the second is a phase and the fifth a flag.
 fn writer_of(words: &WriterWords) -> KeptWriter
     ensures { λ r. ⌜ writerAs r ≡ serializerOf (now (words .entry)) ⌝ }
 {
@@ -112,6 +114,7 @@ fn report_wrote(wrote: Wrote, record: &mut WriterWords, values: &mut Values) -> 
     report_answer(answer, values)
 }
 
+// Puts an atom. The first value is its offset.
 #[no_mangle]
 pub extern "C" fn sise_put_atom(
     line_break: &[u8],
@@ -122,7 +125,9 @@ pub extern "C" fn sise_put_atom(
     record: &mut WriterWords,
     values: &mut Values,
 ) -> u32
-    ensures { λ r. ⌜ DoesLeave (callOn (putAtomCall (now (atom .entry)) «break_line_at») (style (now («line_break» .entry)) (now (indentation .entry))) (now («record» .entry)) (now (buf .entry))) r (now (values .exit)) (now («record» .exit)) (now (buf .exit)) ⌝ }
+    ensures answer { λ r. ⌜ Reports (callOn (putAtomCall (now (atom .entry)) «break_line_at») (style (now («line_break» .entry)) (now (indentation .entry))) (now («record» .entry)) (now (buf .entry)) .answer) r (now (values .exit)) ⌝ }
+    ensures words { λ r. ⌜ now («record» .exit) ≡ callOn (putAtomCall (now (atom .entry)) «break_line_at») (style (now («line_break» .entry)) (now (indentation .entry))) (now («record» .entry)) (now (buf .entry)) .words ⌝ }
+    ensures bytes { λ r. ⌜ now (buf .exit) ≡ callOn (putAtomCall (now (atom .entry)) «break_line_at») (style (now («line_break» .entry)) (now (indentation .entry))) (now («record» .entry)) (now (buf .entry)) .buffer ⌝ }
 {
     let kept = writer_of(record);
     let KeptWriter::Is(w) = kept else {
@@ -133,6 +138,7 @@ pub extern "C" fn sise_put_atom(
     report_wrote(wrote, record, values)
 }
 
+// Begins a list. The first value is the offset of its `(`.
 #[no_mangle]
 pub extern "C" fn sise_begin_list(
     line_break: &[u8],
@@ -142,7 +148,9 @@ pub extern "C" fn sise_begin_list(
     record: &mut WriterWords,
     values: &mut Values,
 ) -> u32
-    ensures { λ r. ⌜ DoesLeave (callOn (beginListCall «break_line_at») (style (now («line_break» .entry)) (now (indentation .entry))) (now («record» .entry)) (now (buf .entry))) r (now (values .exit)) (now («record» .exit)) (now (buf .exit)) ⌝ }
+    ensures answer { λ r. ⌜ Reports (callOn (beginListCall «break_line_at») (style (now («line_break» .entry)) (now (indentation .entry))) (now («record» .entry)) (now (buf .entry)) .answer) r (now (values .exit)) ⌝ }
+    ensures words { λ r. ⌜ now («record» .exit) ≡ callOn (beginListCall «break_line_at») (style (now («line_break» .entry)) (now (indentation .entry))) (now («record» .entry)) (now (buf .entry)) .words ⌝ }
+    ensures bytes { λ r. ⌜ now (buf .exit) ≡ callOn (beginListCall «break_line_at») (style (now («line_break» .entry)) (now (indentation .entry))) (now («record» .entry)) (now (buf .entry)) .buffer ⌝ }
 {
     let kept = writer_of(record);
     let KeptWriter::Is(w) = kept else {
@@ -153,6 +161,7 @@ pub extern "C" fn sise_begin_list(
     report_wrote(wrote, record, values)
 }
 
+// Ends the innermost open list. The first value is the offset of its `)`.
 #[no_mangle]
 pub extern "C" fn sise_end_list(
     line_break: &[u8],
@@ -161,7 +170,9 @@ pub extern "C" fn sise_end_list(
     record: &mut WriterWords,
     values: &mut Values,
 ) -> u32
-    ensures { λ r. ⌜ DoesLeave (callOn endListCall (style (now («line_break» .entry)) (now (indentation .entry))) (now («record» .entry)) (now (buf .entry))) r (now (values .exit)) (now («record» .exit)) (now (buf .exit)) ⌝ }
+    ensures answer { λ r. ⌜ Reports (callOn endListCall (style (now («line_break» .entry)) (now (indentation .entry))) (now («record» .entry)) (now (buf .entry)) .answer) r (now (values .exit)) ⌝ }
+    ensures words { λ r. ⌜ now («record» .exit) ≡ callOn endListCall (style (now («line_break» .entry)) (now (indentation .entry))) (now («record» .entry)) (now (buf .entry)) .words ⌝ }
+    ensures bytes { λ r. ⌜ now (buf .exit) ≡ callOn endListCall (style (now («line_break» .entry)) (now (indentation .entry))) (now («record» .entry)) (now (buf .entry)) .buffer ⌝ }
 {
     let kept = writer_of(record);
     let KeptWriter::Is(w) = kept else {
@@ -172,6 +183,7 @@ pub extern "C" fn sise_end_list(
     report_wrote(wrote, record, values)
 }
 
+// Ends the text, with a line break if wished. The first value is the text's end.
 #[no_mangle]
 pub extern "C" fn sise_finish_writing(
     line_break: &[u8],
@@ -181,7 +193,9 @@ pub extern "C" fn sise_finish_writing(
     record: &mut WriterWords,
     values: &mut Values,
 ) -> u32
-    ensures { λ r. ⌜ DoesLeave (callOn (finishCall «final_break») (style (now («line_break» .entry)) (now (indentation .entry))) (now («record» .entry)) (now (buf .entry))) r (now (values .exit)) (now («record» .exit)) (now (buf .exit)) ⌝ }
+    ensures answer { λ r. ⌜ Reports (callOn (finishCall «final_break») (style (now («line_break» .entry)) (now (indentation .entry))) (now («record» .entry)) (now (buf .entry)) .answer) r (now (values .exit)) ⌝ }
+    ensures words { λ r. ⌜ now («record» .exit) ≡ callOn (finishCall «final_break») (style (now («line_break» .entry)) (now (indentation .entry))) (now («record» .entry)) (now (buf .entry)) .words ⌝ }
+    ensures bytes { λ r. ⌜ now (buf .exit) ≡ callOn (finishCall «final_break») (style (now («line_break» .entry)) (now (indentation .entry))) (now («record» .entry)) (now (buf .entry)) .buffer ⌝ }
 {
     let kept = writer_of(record);
     let KeptWriter::Is(w) = kept else {

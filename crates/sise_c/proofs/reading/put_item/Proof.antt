@@ -1,34 +1,20 @@
+-- Each arm writes the words of its item.
+-- Assumes nothing.
+use mathlib.Core.Path.{sym, ap}
+use lib.ListN.{take}
 use borrow.Author.Needs.{needs}
+use Rattle.sise_parser.specs.declared.reader.ParsedItem.{ParsedItem}
+use Rattle.sise_c.specs.Items.{itemWords}
 use Rattle.sise_c.proofs.reading.put_item.Statement.{statement}
 use Rattle.sise_c.proofs.reading.put_item.Tie as tie
-use Rattle.sise_c.proofs.reading.put_item.Reads as reads
-use Rattle.sise_c.proofs.reading.put_item.Lts as lts
-
--- src/reading.rt:71:28
-enum-known-item : tie.Need-enum-known-item
-enum-known-item c = search needs
-
--- src/reading.rt:72:33
-enum-known-item-2 : tie.Need-enum-known-item-2
-enum-known-item-2 c = search needs
-
--- src/reading.rt:73:31
-enum-known-item-3 : tie.Need-enum-known-item-3
-enum-known-item-3 c = search needs
-
--- src/reading.rt:67:1
-returns : tie.Need-returns
-returns c = ?
-
--- src/reading.rt:67:1
-returns-2 : tie.Need-returns-2
-returns-2 c = ?
-
--- src/reading.rt:67:1
-returns-3 : tie.Need-returns-3
-returns-3 c = ?
 
 pub put-item-spec : {M : Type 1} → statement M
 put-item-spec =
     tie.close
-    (tie.spec enum-known-item enum-known-item-2 enum-known-item-3 returns returns-2 returns-3)
+    (tie.spec
+    (λ c. search needs)  -- enum-known-item
+    (λ c. search needs)  -- enum-known-item-2
+    (λ c. search needs)  -- enum-known-item-3
+    (λ c. ap (λ (i : ParsedItem). take 3 (itemWords i)) (sym (c .before .before .item .given .1)))  -- returns
+    (λ c. ap (λ (i : ParsedItem). take 3 (itemWords i)) (sym (c .before .before .item2 .given .1)))  -- returns-2
+    (λ c. ap (λ (i : ParsedItem). take 3 (itemWords i)) (sym (c .before .before .item3 .given .1))))  -- returns-3

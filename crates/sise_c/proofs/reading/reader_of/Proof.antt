@@ -1,61 +1,23 @@
+-- Each arm is a case of the phase's word.
+-- Assumes nothing.
+use mathlib.Core.Path.{refl, ap}
 use borrow.Author.Needs.{needs}
+use Rattle.sise_c.specs.Records.{readerPhase}
+use Rattle.sise_c.proofs.RecordLaws.{no-reader-phase, means-reader}
 use Rattle.sise_c.proofs.reading.reader_of.Statement.{statement}
 use Rattle.sise_c.proofs.reading.reader_of.Tie as tie
-use Rattle.sise_c.proofs.reading.reader_of.Reads as reads
-use Rattle.sise_c.proofs.reading.reader_of.Lts as lts
-use Rattle.sise_c.proofs.reading.kept_in.Reads as kept-in-reads
-
--- src/reading.rt:46:20
-element-copy-out-position : tie.Need-element-copy-out-position
-element-copy-out-position c = search needs
-
--- src/reading.rt:47:17
-element-copy-out-phase : tie.Need-element-copy-out-phase
-element-copy-out-phase c = search needs
-
--- src/reading.rt:48:17
-element-copy-out-lists : tie.Need-element-copy-out-lists
-element-copy-out-lists c = search needs
-
--- src/reading.rt:50:14
-kept-in-requires : tie.Need-kept-in-requires
-kept-in-requires c κs = search needs
-
--- src/reading.rt:51:14
-kept-in-requires-2 : tie.Need-kept-in-requires-2
-kept-in-requires-2 c κs = search needs
-
--- src/reading.rt:52:14
-kept-in-requires-3 : tie.Need-kept-in-requires-3
-kept-in-requires-3 c κs = search needs
-
--- src/reading.rt:43:1
-returns : tie.Need-returns
-returns c = ?
-
--- src/reading.rt:43:1
-returns-2 : tie.Need-returns-2
-returns-2 c = ?
-
--- src/reading.rt:43:1
-returns-3 : tie.Need-returns-3
-returns-3 c = ?
-
--- src/reading.rt:43:1
-returns-4 : tie.Need-returns-4
-returns-4 c = ?
 
 pub reader-of-spec : {M : Type 1} → statement M
 reader-of-spec =
     tie.close
     (tie.spec
-    element-copy-out-position
-    element-copy-out-phase
-    element-copy-out-lists
-    kept-in-requires
-    kept-in-requires-2
-    kept-in-requires-3
-    returns
-    returns-2
-    returns-3
-    returns-4)
+    (λ c. search needs)  -- element-copy-out-position
+    (λ c. search needs)  -- element-copy-out-phase
+    (λ c. search needs)  -- element-copy-out-lists
+    (λ c κs. search needs)  -- kept-in-requires
+    (λ c κs. search needs)  -- kept-in-requires-2
+    (λ c κs. search needs)  -- kept-in-requires-3
+    (λ c. means-reader _ (ap readerPhase (c .before .match .keys1)) (c .kept-in .ensures))  -- returns
+    (λ c. means-reader _ (ap readerPhase (c .before .match .keys2)) (c .kept-in2 .ensures))  -- returns-2
+    (λ c. means-reader _ (ap readerPhase (c .before .match .keys3)) (c .kept-in3 .ensures))  -- returns-3
+    (λ c. means-reader _ (no-reader-phase _ (c .match .rest .0 .0 .1) (c .match .rest .0 .1) (c .match .rest .1)) refl))  -- returns-4

@@ -1,63 +1,28 @@
+-- `sise_finish_reading` meets its contract: the words mean no record, or it reports what finish promises of theirs.
+-- Assumes nothing.
 use borrow.Author.Needs.{needs}
+use Rattle.sise_c.proofs.SinglyLaws.{finish-unsound, finish-read}
+use mathlib.Core.Path.{refl}
 use Rattle.sise_c.proofs.reading.sise_finish_reading.Statement.{statement}
 use Rattle.sise_c.proofs.reading.sise_finish_reading.Tie as tie
-use Rattle.sise_c.proofs.reading.sise_finish_reading.Reads as reads
-use Rattle.sise_c.proofs.reading.sise_finish_reading.Lts as lts
-use Rattle.sise_c.proofs.reading.reader_of.Reads as reader-of-reads
-use Rattle.sise_c.proofs.report.report_refused.Reads as report-refused-reads
-use Rattle.sise_parser.proofs.reader.Reader.finish.Reads as finish-reads
-
--- src/reading.rt:127:9
-reader-of-requires : tie.Need-reader-of-requires
-reader-of-requires c κs = search needs
-
--- src/reading.rt:128:24
-enum-known-kept : tie.Need-enum-known-kept
-enum-known-kept c = search needs
-
--- src/reading.rt:129:9
-enum-told : tie.Need-enum-told
-enum-told c = search needs
-
--- src/reading.rt:130:9
-returns : tie.Need-returns
-returns c = ?
-
--- src/reading.rt:132:11
-finish-requires : tie.Need-finish-requires
-finish-requires c κs = search needs
-
--- src/reading.rt:134:13
-enum-told-2 : tie.Need-enum-told-2
-enum-told-2 c = search needs
-
--- src/reading.rt:137:27
-enum-known-error : tie.Need-enum-known-error
-enum-known-error c = search needs
-
--- src/reading.rt:137:37
-report-refused-requires : tie.Need-report-refused-requires
-report-refused-requires c κs = search needs
-
--- src/reading.rt:123:1
-returns-2 : tie.Need-returns-2
-returns-2 c = ?
-
--- src/reading.rt:123:1
-returns-3 : tie.Need-returns-3
-returns-3 c = ?
 
 pub sise-finish-reading-spec : {M : Type 1} → statement M
 sise-finish-reading-spec =
     tie.close
     (tie.spec
-    reader-of-requires
-    enum-known-kept
-    enum-told
-    returns
-    finish-requires
-    enum-told-2
-    enum-known-error
-    report-refused-requires
-    returns-2
-    returns-3)
+    (λ c κs. search needs)  -- reader-of-requires
+    (λ c. search needs)  -- enum-known-kept
+    (λ c. search needs)  -- enum-told
+    (λ c. finish-unsound _ _ (c .before .before .before .reader-of .ensures) (c .before .enum-told .given .1))  -- returns
+    (λ c κs. search needs)  -- finish-requires
+    (λ c. search needs)  -- enum-told-2
+    (λ c. search needs)  -- enum-known-error
+    (λ c κs. search needs)  -- report-refused-requires
+    -- returns-2
+    (λ c.
+    let p = c .before .before .before in
+    finish-read _ _ (p .before .before .before .before .reader-of .ensures) (p .before .before .kept .given .1) (p .finish .ensures) (c .before .enum-told2 .given .1) (record { result = refl; values = refl }))
+    -- returns-3
+    (λ c.
+    let p = c .before .before .before .before .before in
+    finish-read _ _ (p .before .before .before .before .reader-of .ensures) (p .before .before .kept .given .1) (p .finish .ensures) (c .before .before .before .error .given .1) (c .report-refused .ensures)))
