@@ -23,8 +23,10 @@ mod profile;
 #[path = "../src/random.rs"]
 mod random;
 mod reading;
+mod records;
 mod scripts;
 mod shown;
+mod singly;
 mod styles;
 mod tables;
 mod texts;
