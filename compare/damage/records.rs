@@ -23,10 +23,8 @@ pub fn writer(random: &mut Random, len: usize) -> [u64; 9] {
         _ => random.below(lists as usize + 1) as u64,
     };
     let beginning = random.below(2) as u64;
-    let upto = |random: &mut Random| random.below(position as usize + 1) as u64;
-    let (line, spaces, breaks) = (upto(random), upto(random), upto(random));
-    let most = (position * (position + 1)).min(1 << 31);
-    let indents = random.below(most as usize + 1) as u64;
+    let [line, spaces, breaks] = std::array::from_fn(|_| upto(random, position));
+    let indents = upto(random, position * (position + 1));
     let words = [
         position, phase, lists, broken, beginning, line, spaces, breaks, indents,
     ];
@@ -40,6 +38,15 @@ fn lists(random: &mut Random, position: u64, phase: u64) -> u64 {
         1 + random.below(most.min(position as usize)) as u64
     } else {
         0
+    }
+}
+
+/// A number up to `most`, sometimes that itself or one more.
+fn upto(random: &mut Random, most: u64) -> u64 {
+    match random.below(20) {
+        0 => most,
+        1 => most + 1,
+        _ => random.below(most.min(1 << 31) as usize + 1) as u64,
     }
 }
 

@@ -1,16 +1,10 @@
-// Every exported call of sise_c, by its name without `sise_`, under the contract that it has there and with a body that only calls it: the promises of the
+// Every exported call of sise_c that does a whole job, by its name without `sise_`, under the contract that it has there and with a body that only calls it: the promises of the
 // library on one page. An edit of must-fail/ puts a wrong program in the place of a body, and the contract has to refuse it.
 use sise_c::sise_atom_kind;
-use sise_c::sise_begin_list;
 use sise_c::sise_check_atom;
-use sise_c::sise_end_list;
-use sise_c::sise_finish_reading;
-use sise_c::sise_finish_writing;
 use sise_c::sise_index_path;
 use sise_c::sise_measure_tree;
-use sise_c::sise_next_item;
 use sise_c::sise_parse_tree;
-use sise_c::sise_put_atom;
 use sise_c::sise_read_items;
 use sise_c::sise_serialize_tree;
 use sise_c::sise_write_calls;
@@ -19,27 +13,18 @@ ghost use mathlib.Core.List.{[], _∷_};
 ghost use lib.ListN.{length};
 ghost use Rattle.sise_util.specs.Atom.{isAtom, kindOf, kindNumber};
 ghost use Rattle.sise_serializer.specs.Serializer.{style};
-ghost use Rattle.sise_serializer.specs.Calls.{putAtomCall, beginListCall, endListCall, finishCall};
 ghost use Rattle.sise_serializer.specs.Words.{callsOf, WritesCalls};
 ghost use Rattle.sise_tree.specs.IndexPath.{indexPath};
 ghost use Rattle.sise_tree.specs.ParseText.{parseText};
 ghost use Rattle.sise_tree_writer.specs.Writing.{writeText};
 ghost use Rattle.sise_c.specs.Reports.{checked, Reports, sizeOf, ReportsSize};
 ghost use Rattle.sise_c.specs.Items.{readItems};
-ghost use Rattle.sise_c.specs.Singly.{ReportsNext, nextOf, finishOf, callOn};
 
 // What a call answers beside its result: the answer and 0, or the refusal's place and code point.
 pub type Values = [u64; 2];
 
 // How many calls of a list ran.
 pub type CallCount = [u64; 1];
-
-// A reader's record in words, an item, and a writer's record.
-pub type ReaderWords = [u64; 3];
-
-pub type ItemWords = [u64; 3];
-
-pub type WriterWords = [u64; 9];
 
 // Whether the bytes are an atom: 0 or 17.
 pub fn check_atom(atom: &[u8]) -> u32
@@ -141,93 +126,4 @@ pub fn write_calls(
     ensures ran { λ r. ⌜ now (ran .exit) ≡ length (callsOf (now (words .entry)) (now (atoms .entry)) (length (now (answers .entry)))) ∷ [] ⌝ }
 {
     sise_write_calls(words, atoms, line_break, indentation, buf, answers, ran)
-}
-
-// ---- the calls one by one
-
-// Reads the next item of the text. `item` is its kind, place and length; of a refusal 0, its place and code point. The record's words are for the next call.
-pub fn next_item(text: &[u8], record: &mut ReaderWords, item: &mut ItemWords) -> u32
-    ensures answer { λ r. ⌜ ReportsNext (nextOf (now (text .entry)) (now («record» .entry)) .answer) r (now (item .exit)) ⌝ }
-    ensures words { λ r. ⌜ now («record» .exit) ≡ nextOf (now (text .entry)) (now («record» .entry)) .words ⌝ }
-{
-    sise_next_item(text, record, item)
-}
-
-// Whether the text ends after the last item. The record's words are of no use after it.
-pub fn finish_reading(text: &[u8], record: &ReaderWords, values: &mut Values) -> u32
-    ensures { λ r. ⌜ Reports (finishOf (now (text .entry)) (now («record» .entry))) r (now (values .exit)) ⌝ }
-{
-    sise_finish_reading(text, record, values)
-}
-
-// Puts an atom. The first value is its offset.
-pub fn put_atom(
-    line_break: &[u8],
-    indentation: &[u8],
-    buf: &mut [u8],
-    atom: &[u8],
-    break_line_at: u64,
-    record: &mut WriterWords,
-    values: &mut Values,
-) -> u32
-    ensures answer { λ r. ⌜ Reports (callOn (putAtomCall (now (atom .entry)) «break_line_at») (style (now («line_break» .entry)) (now (indentation .entry))) (now («record» .entry)) (now (buf .entry)) .answer) r (now (values .exit)) ⌝ }
-    ensures words { λ r. ⌜ now («record» .exit) ≡ callOn (putAtomCall (now (atom .entry)) «break_line_at») (style (now («line_break» .entry)) (now (indentation .entry))) (now («record» .entry)) (now (buf .entry)) .words ⌝ }
-    ensures bytes { λ r. ⌜ now (buf .exit) ≡ callOn (putAtomCall (now (atom .entry)) «break_line_at») (style (now («line_break» .entry)) (now (indentation .entry))) (now («record» .entry)) (now (buf .entry)) .buffer ⌝ }
-{
-    sise_put_atom(
-        line_break,
-        indentation,
-        buf,
-        atom,
-        break_line_at,
-        record,
-        values,
-    )
-}
-
-// Begins a list. The first value is the offset of its `(`.
-pub fn begin_list(
-    line_break: &[u8],
-    indentation: &[u8],
-    buf: &mut [u8],
-    break_line_at: u64,
-    record: &mut WriterWords,
-    values: &mut Values,
-) -> u32
-    ensures answer { λ r. ⌜ Reports (callOn (beginListCall «break_line_at») (style (now («line_break» .entry)) (now (indentation .entry))) (now («record» .entry)) (now (buf .entry)) .answer) r (now (values .exit)) ⌝ }
-    ensures words { λ r. ⌜ now («record» .exit) ≡ callOn (beginListCall «break_line_at») (style (now («line_break» .entry)) (now (indentation .entry))) (now («record» .entry)) (now (buf .entry)) .words ⌝ }
-    ensures bytes { λ r. ⌜ now (buf .exit) ≡ callOn (beginListCall «break_line_at») (style (now («line_break» .entry)) (now (indentation .entry))) (now («record» .entry)) (now (buf .entry)) .buffer ⌝ }
-{
-    sise_begin_list(line_break, indentation, buf, break_line_at, record, values)
-}
-
-// Ends the innermost open list. The first value is the offset of its `)`.
-pub fn end_list(
-    line_break: &[u8],
-    indentation: &[u8],
-    buf: &mut [u8],
-    record: &mut WriterWords,
-    values: &mut Values,
-) -> u32
-    ensures answer { λ r. ⌜ Reports (callOn endListCall (style (now («line_break» .entry)) (now (indentation .entry))) (now («record» .entry)) (now (buf .entry)) .answer) r (now (values .exit)) ⌝ }
-    ensures words { λ r. ⌜ now («record» .exit) ≡ callOn endListCall (style (now («line_break» .entry)) (now (indentation .entry))) (now («record» .entry)) (now (buf .entry)) .words ⌝ }
-    ensures bytes { λ r. ⌜ now (buf .exit) ≡ callOn endListCall (style (now («line_break» .entry)) (now (indentation .entry))) (now («record» .entry)) (now (buf .entry)) .buffer ⌝ }
-{
-    sise_end_list(line_break, indentation, buf, record, values)
-}
-
-// Ends the text, with a line break if wished. The first value is the text's end.
-pub fn finish_writing(
-    line_break: &[u8],
-    indentation: &[u8],
-    buf: &mut [u8],
-    final_break: bool,
-    record: &mut WriterWords,
-    values: &mut Values,
-) -> u32
-    ensures answer { λ r. ⌜ Reports (callOn (finishCall «final_break») (style (now («line_break» .entry)) (now (indentation .entry))) (now («record» .entry)) (now (buf .entry)) .answer) r (now (values .exit)) ⌝ }
-    ensures words { λ r. ⌜ now («record» .exit) ≡ callOn (finishCall «final_break») (style (now («line_break» .entry)) (now (indentation .entry))) (now («record» .entry)) (now (buf .entry)) .words ⌝ }
-    ensures bytes { λ r. ⌜ now (buf .exit) ≡ callOn (finishCall «final_break») (style (now («line_break» .entry)) (now (indentation .entry))) (now («record» .entry)) (now (buf .entry)) .buffer ⌝ }
-{
-    sise_finish_writing(line_break, indentation, buf, final_break, record, values)
 }
