@@ -1,9 +1,11 @@
 -- The reader's and the writer's calls one by one, over the words of a record (document 01, "Refusals": "Reader: 11, then 9 or 10, then the text", and so on).
 -- Assumes nothing.
-use Prim.Native.Nat.{ℕ}
+use Prim.Native.Nat.{ℕ, _-_, _^_}
 use mathlib.Core.Path.{_≡_}
+use mathlib.Core.Bool.{cond}
 use mathlib.Core.Option.{Option, none, some}
 use mathlib.Core.List.{List, [], _∷_}
+use lib.Dec.{leb}
 use lib.ListN.{length, take}
 use Rattle.sise_parser.specs.Reader as reader
 use Rattle.sise_parser.specs.Reader.{nextItem, Ending, ended, notEnded, finishReading}
@@ -69,6 +71,10 @@ finishOf text ws = finishBy text (readerOf ws)
 abbrev pub putAnswer : serializer.Answer → Answer
 putAnswer (serializer.Answer.accepted o) = answered o
 putAnswer (serializer.Answer.refused n) = refusedWith n
+
+-- an answer by its word (Words.antt of sise_serializer)
+abbrev pub wordAnswer : ℕ → Answer
+wordAnswer n = cond (leb (2 ^ 32) n) (refusedWith (n - 2 ^ 32)) (answered n)
 
 -- what is left: the answer, the record's words and the buffer
 pub record Leaves : Type 0 where

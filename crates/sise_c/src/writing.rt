@@ -2,22 +2,28 @@
 // how many of them have a line break in them, whether the list is at its beginning (0 or 1), line length, spaces, breaks and indents.
 use crate::report::Values;
 use sise_serializer::Phase;
-use sise_serializer::Put;
+use sise_serializer::Ran;
 use sise_serializer::Serializer;
-use sise_serializer::Wrote;
+use sise_serializer::write_calls_from;
 ghost use mathlib.Core.Path.{_≡_};
+ghost use mathlib.Core.Bool.{cond};
 ghost use mathlib.Core.Option.{some};
+ghost use Prim.Native.Nat.{_<_, _^_};
 ghost use lib.Dec.{eqb};
 ghost use lib.ListN.{getD};
 ghost use Rattle.sise_serializer.specs.Calls.{putAtomCall, beginListCall, endListCall, finishCall};
-ghost use Rattle.sise_serializer.specs.Serializer.{style, answerAs};
+ghost use Rattle.sise_serializer.specs.Serializer.{style};
 ghost use Rattle.sise_c.specs.Kept.{writerAs};
 ghost use Rattle.sise_c.specs.Records.{writerPhaseWord, flagWord, serializerIn, serializerOf, serializerWords};
 ghost use Rattle.sise_c.specs.Reports.{Reports};
-ghost use Rattle.sise_c.specs.Singly.{putAnswer, callOn};
+ghost use Rattle.sise_c.specs.Singly.{wordAnswer, callOn};
 
 // A writer's record in words.
 pub type WriterWords = [u64; 9];
+
+// A call is made as a list of that call alone, by write_calls_from: a second caller of the writer's steps would take them out of the loop of a whole list, and
+// make that slower. This is the word of 11, which stays where the record is unsound and no call runs.
+const UNSOUND: u64 = 4294967307;
 
 // The record that words mean, if they mean one.
 enum KeptWriter {
@@ -93,25 +99,35 @@ fn put_writer(w: Serializer, words: &mut WriterWords)
     ];
 }
 
-fn report_answer(answer: Put, values: &mut Values) -> u32
-    ensures { λ r. ⌜ Reports (putAnswer (answerAs answer)) r (now (values .exit)) ⌝ }
+// An answer's word, as the writer's lists of calls have it: the offset, or 2 ^ 32 and the refusal's number.
+fn report_word(word: u64, values: &mut Values) -> u32
+    requires { ⌜ word < 2 ^ 33 ⌝ }
+    ensures { λ r. ⌜ Reports (wordAnswer word) r (now (values .exit)) ⌝ }
 {
-    if let Put::At(offset) = answer {
-        *values = [offset as u64, 0];
+    if word < 4294967296 {
+        *values = [word, 0];
         return 0;
     }
     *values = [0, 0];
-    answer.number()
+    (word - 4294967296) as u32
 }
 
-fn report_wrote(wrote: Wrote, record: &mut WriterWords, values: &mut Values) -> u32
-    ensures answer { λ r. ⌜ Reports (putAnswer (answerAs (wrote .answer))) r (now (values .exit)) ⌝ }
-    ensures words { λ r. ⌜ now («record» .exit) ≡ serializerWords (wrote .serializer) ⌝ }
+// A list of one call ran: the record that it left, and its answer's word.
+fn report_ran(ran: Ran, word: u64, record: &mut WriterWords, values: &mut Values) -> u32
+    requires { ⌜ word < 2 ^ 33 ⌝ }
+    ensures answer { λ r. ⌜ Reports (wordAnswer word) r (now (values .exit)) ⌝ }
+    ensures words { λ r. ⌜ now («record» .exit) ≡ serializerWords (ran .serializer) ⌝ }
 {
-    let w = wrote.serializer;
-    let answer = wrote.answer;
-    put_writer(w, record);
-    report_answer(answer, values)
+    let after = ran.serializer;
+    put_writer(after, record);
+    report_word(word, values)
+}
+
+// finish's kind as a call of a list.
+fn finish_kind(final_break: bool) -> u64
+    ensures { λ r. ⌜ r ≡ cond «final_break» 4 3 ⌝ }
+{
+    if final_break { 4 } else { 3 }
 }
 
 // Puts an atom. The first value is its offset.
@@ -134,8 +150,10 @@ pub extern "C" fn sise_put_atom(
         *values = [0, 0];
         return 11;
     };
-    let wrote = w.put_atom(line_break, indentation, buf, atom, break_line_at);
-    report_wrote(wrote, record, values)
+    let call = [0, 0, atom.len() as u64, break_line_at];
+    let mut answers = [UNSOUND];
+    let ran = write_calls_from(w, &call, atom, line_break, indentation, buf, &mut answers);
+    report_ran(ran, answers[0], record, values)
 }
 
 // Begins a list. The first value is the offset of its `(`.
@@ -157,8 +175,10 @@ pub extern "C" fn sise_begin_list(
         *values = [0, 0];
         return 11;
     };
-    let wrote = w.begin_list(line_break, indentation, buf, break_line_at);
-    report_wrote(wrote, record, values)
+    let call = [1, 0, 0, break_line_at];
+    let mut answers = [UNSOUND];
+    let ran = write_calls_from(w, &call, b"", line_break, indentation, buf, &mut answers);
+    report_ran(ran, answers[0], record, values)
 }
 
 // Ends the innermost open list. The first value is the offset of its `)`.
@@ -179,8 +199,10 @@ pub extern "C" fn sise_end_list(
         *values = [0, 0];
         return 11;
     };
-    let wrote = w.end_list(line_break, indentation, buf);
-    report_wrote(wrote, record, values)
+    let call = [2, 0, 0, 0];
+    let mut answers = [UNSOUND];
+    let ran = write_calls_from(w, &call, b"", line_break, indentation, buf, &mut answers);
+    report_ran(ran, answers[0], record, values)
 }
 
 // Ends the text, with a line break if wished. The first value is the text's end.
@@ -197,11 +219,14 @@ pub extern "C" fn sise_finish_writing(
     ensures words { λ r. ⌜ now («record» .exit) ≡ callOn (finishCall «final_break») (style (now («line_break» .entry)) (now (indentation .entry))) (now («record» .entry)) (now (buf .entry)) .words ⌝ }
     ensures bytes { λ r. ⌜ now (buf .exit) ≡ callOn (finishCall «final_break») (style (now («line_break» .entry)) (now (indentation .entry))) (now («record» .entry)) (now (buf .entry)) .buffer ⌝ }
 {
+    let kind = finish_kind(final_break);
     let kept = writer_of(record);
     let KeptWriter::Is(w) = kept else {
         *values = [0, 0];
         return 11;
     };
-    let wrote = w.finish(line_break, indentation, buf, final_break);
-    report_wrote(wrote, record, values)
+    let call = [kind, 0, 0, 0];
+    let mut answers = [UNSOUND];
+    let ran = write_calls_from(w, &call, b"", line_break, indentation, buf, &mut answers);
+    report_ran(ran, answers[0], record, values)
 }
