@@ -119,6 +119,12 @@ impl<'a> Reader<'a> {
         }
     }
 
+    /// Whether the text's one node has been read, so that [`Reader::finish`] is due.
+    #[inline]
+    pub const fn is_whole(&self) -> bool {
+        self.record[1] == 2
+    }
+
     /// How many lists are open.
     pub const fn open(&self) -> usize {
         self.record[2] as usize
