@@ -66,6 +66,21 @@ pub fn index_path(table: &[u32], text: &[u8], path: &[u64]) -> (u32, [u64; 2]) {
     })
 }
 
+/// With the node's index, and the number of nodes looked at.
+pub fn find_path(table: &[u32], text: &[u8], path: &[u64]) -> (u32, [u64; 2]) {
+    valued(|values| unsafe {
+        raw::sise_find_path(
+            table.as_ptr(),
+            table.len(),
+            text.as_ptr(),
+            text.len(),
+            path.as_ptr(),
+            path.len(),
+            values,
+        )
+    })
+}
+
 /// With the number of bytes written.
 pub fn serialize_tree(
     strings: Strings,
@@ -94,31 +109,33 @@ pub fn serialize_tree(
     })
 }
 
-/// With bytes, breaks and indents.
+/// With bytes, breaks and indents, where there is room for so many bytes.
 pub fn measure_tree(
     strings: Strings,
-    _room: usize,
+    room: usize,
     text: &[u8],
     table: &[u32],
     break_line_at: u64,
     final_break: bool,
 ) -> (u32, [u64; 3]) {
-    let (number, [bytes, _]) = valued(|values| unsafe {
+    let mut size = [0; 3];
+    let number = unsafe {
         raw::sise_measure_tree(
             strings.line_break.as_ptr(),
             strings.line_break.len(),
             strings.indentation.as_ptr(),
             strings.indentation.len(),
+            room,
             text.as_ptr(),
             text.len(),
             table.as_ptr(),
             table.len(),
             break_line_at,
             final_break,
-            values,
+            &mut size,
         )
-    });
-    (number, [bytes, 0, 0])
+    };
+    (number, size)
 }
 
 /// With the number of items.
@@ -132,6 +149,35 @@ pub fn read_items(text: &[u8], words: &mut [u64]) -> (u32, [u64; 2]) {
             values,
         )
     })
+}
+
+/// The number of bytes written, and that of the calls that ran.
+pub fn write_calls(
+    words: &[u64],
+    atoms: &[u8],
+    strings: Strings,
+    buf: &mut [u8],
+    answers: &mut [u64],
+) -> (u64, u64) {
+    let mut ran = [0];
+    let written = unsafe {
+        raw::sise_write_calls(
+            words.as_ptr(),
+            words.len(),
+            atoms.as_ptr(),
+            atoms.len(),
+            strings.line_break.as_ptr(),
+            strings.line_break.len(),
+            strings.indentation.as_ptr(),
+            strings.indentation.len(),
+            buf.as_mut_ptr(),
+            buf.len(),
+            answers.as_mut_ptr(),
+            answers.len(),
+            &mut ran,
+        )
+    };
+    (written, ran[0])
 }
 
 /// A refusal's number, or 0, with the two values that the call writes.
@@ -403,6 +449,16 @@ mod raw {
             values: *mut [u64; 2],
         ) -> u32;
 
+        pub fn sise_find_path(
+            table: *const u32,
+            table_len: usize,
+            text: *const u8,
+            text_len: usize,
+            path: *const u64,
+            path_len: usize,
+            values: *mut [u64; 2],
+        ) -> u32;
+
         pub fn sise_serialize_tree(
             line_break: *const u8,
             line_break_len: usize,
@@ -424,13 +480,14 @@ mod raw {
             line_break_len: usize,
             indentation: *const u8,
             indentation_len: usize,
+            room: usize,
             text: *const u8,
             text_len: usize,
             table: *const u32,
             table_len: usize,
             break_line_at: u64,
             final_break: bool,
-            values: *mut [u64; 2],
+            size: *mut [u64; 3],
         ) -> u32;
 
         pub fn sise_read_items(
@@ -440,5 +497,21 @@ mod raw {
             words_len: usize,
             values: *mut [u64; 2],
         ) -> u32;
+
+        pub fn sise_write_calls(
+            words: *const u64,
+            words_len: usize,
+            atoms: *const u8,
+            atoms_len: usize,
+            line_break: *const u8,
+            line_break_len: usize,
+            indentation: *const u8,
+            indentation_len: usize,
+            buf: *mut u8,
+            buf_len: usize,
+            answers: *mut u64,
+            answers_len: usize,
+            ran: *mut [u64; 1],
+        ) -> u64;
     }
 }

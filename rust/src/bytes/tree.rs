@@ -102,7 +102,7 @@ impl<'a> Tree<'a> {
 
     /// The node at the end of a path from the root, each step a child's number from 0. It looks at the nodes on the way, and no others. Refused: 16.
     pub fn at(&self, path: &[u64]) -> Result<Node<'_>, Refusal> {
-        let index = lent::index_path(&self.table, self.text, path)?;
+        let (index, _) = lent::find_path(&self.table, self.text, path)?;
         Ok(Node { tree: self, index })
     }
 }
