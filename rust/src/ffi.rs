@@ -138,6 +138,36 @@ pub fn measure_tree(
     (number, size)
 }
 
+/// With the number of bytes written, if bytes, breaks and indents are still those of the size.
+pub fn commit_tree(
+    strings: Strings,
+    buf: &mut [u8],
+    text: &[u8],
+    table: &[u32],
+    break_line_at: u64,
+    final_break: bool,
+    size: &[u64; 3],
+) -> (u32, [u64; 2]) {
+    valued(|values| unsafe {
+        raw::sise_commit_tree(
+            strings.line_break.as_ptr(),
+            strings.line_break.len(),
+            strings.indentation.as_ptr(),
+            strings.indentation.len(),
+            buf.as_mut_ptr(),
+            buf.len(),
+            text.as_ptr(),
+            text.len(),
+            table.as_ptr(),
+            table.len(),
+            break_line_at,
+            final_break,
+            size,
+            values,
+        )
+    })
+}
+
 /// With the number of items.
 pub fn read_items(text: &[u8], words: &mut [u64]) -> (u32, [u64; 2]) {
     valued(|values| unsafe {
@@ -480,7 +510,7 @@ mod raw {
             line_break_len: usize,
             indentation: *const u8,
             indentation_len: usize,
-            room: usize,
+            buf_len: usize,
             text: *const u8,
             text_len: usize,
             table: *const u32,
@@ -488,6 +518,23 @@ mod raw {
             break_line_at: u64,
             final_break: bool,
             size: *mut [u64; 3],
+        ) -> u32;
+
+        pub fn sise_commit_tree(
+            line_break: *const u8,
+            line_break_len: usize,
+            indentation: *const u8,
+            indentation_len: usize,
+            buf: *mut u8,
+            buf_len: usize,
+            text: *const u8,
+            text_len: usize,
+            table: *const u32,
+            table_len: usize,
+            break_line_at: u64,
+            final_break: bool,
+            size: *const [u64; 3],
+            values: *mut [u64; 2],
         ) -> u32;
 
         pub fn sise_read_items(

@@ -85,6 +85,32 @@ pub fn serialize_tree(
     answered(written)
 }
 
+/// The same, if the tree still has the size that [`measure_tree`] answered. Refused: 13; 15; 17; 22; 23, if it has another.
+pub fn commit_tree(
+    layout: Layout,
+    buf: &mut [u8],
+    text: &[u8],
+    table: &[u32],
+    size: Size,
+) -> Result<usize, Refusal> {
+    let Layout {
+        break_line_at,
+        final_break,
+        ..
+    } = layout;
+    let size = [size.bytes as u64, size.breaks as u64, size.indents as u64];
+    let strings = strings(layout);
+    answered(ffi::commit_tree(
+        strings,
+        buf,
+        text,
+        table,
+        break_line_at,
+        final_break,
+        &size,
+    ))
+}
+
 /// Reads the items of a whole text into the first words, four an item: the number of items. `4 * text.len()` words are always enough. Refused: the first
 /// refusal in the text (1 to 8); 14.
 pub fn read_items(text: &[u8], words: &mut [u64]) -> Result<usize, Refusal> {

@@ -199,6 +199,27 @@ impl<'t> Node<'t> {
         )?;
         Ok(out)
     }
+
+    /// The node as a text, if that still has the size that [`Node::size`] answered, which a user may have seen and agreed to. Refused: 22; 23, if it has
+    /// another, as in another layout.
+    ///
+    /// ```
+    /// use sise::bytes::{Layout, Reason, Tree};
+    ///
+    /// let tree = Tree::parse(b"(x (1 2))")?;
+    /// let size = tree.root().size(Layout::HOUSE)?;
+    /// assert_eq!((size.bytes, size.breaks, size.indents), (10, 1, 0));
+    /// assert_eq!(tree.root().commit(Layout::HOUSE, size)?, b"(x (1 2))\n");
+    /// let refusal = tree.root().commit(Layout::house_at(0), size).unwrap_err();
+    /// assert_eq!(refusal.reason, Reason::SizeChanged);
+    /// # Ok::<(), sise::bytes::Refusal>(())
+    /// ```
+    pub fn commit(&self, layout: Layout, size: Size) -> Result<Vec<u8>, Refusal> {
+        let mut out = vec![0; self.size(layout)?.bytes];
+        let table = &self.tree.table[4 * self.index..];
+        lent::commit_tree(layout, &mut out, self.tree.text, table, size)?;
+        Ok(out)
+    }
 }
 
 /// The children of a list, in order.
