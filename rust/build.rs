@@ -96,8 +96,9 @@ fn newest(path: &Path) -> SystemTime {
 fn original(package: &Path) {
     println!("cargo::rerun-if-env-changed=SISE_SRC");
     println!("cargo::rustc-check-cfg=cfg(original)");
-    let named = env::var_os("SISE_SRC").map(PathBuf::from);
-    let source = named.unwrap_or_else(|| package.join("../../shared/docs/src/src"));
+    let named = env::var_os("SISE_SRC").unwrap_or("../shared/docs/src/src".into());
+    // As for compare/, from the repository's top.
+    let source = package.join("..").join(named);
     println!("cargo::rerun-if-changed={}", source.display());
     let files = [
         "parse_tree",

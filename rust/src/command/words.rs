@@ -43,7 +43,7 @@ impl Words {
             Some("fmt") => given.fmt(),
             Some("get") => given.allow("get", &[])?.get(),
             Some("size") => given.allow("size", &["--width"])?.file("size", Task::Size),
-            _ => Err(format!("no such task: {}", first.display())),
+            _ => Err(format!("no such task: {}", first.to_string_lossy())),
         }
     }
 

@@ -3,7 +3,7 @@
 //!     cargo test --test differential                              200,000 random lists of calls
 //!     cargo test --test differential -- --lists N --seed S        others
 //!
-//! The crate's files are taken unchanged from SISE_SRC, by default from ../../shared/docs/src/src; where they are not at hand, nothing is run.
+//! The crate's files are taken unchanged from SISE_SRC, by default from ../shared/docs/src/src beside the repository; where they are not at hand, nothing is run.
 
 #[cfg(original)]
 include!("../original/root.rs");
