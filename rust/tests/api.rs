@@ -171,7 +171,5 @@ fn traits() {
     fn shorter<'a>(long: Parser<'static>, _: &'a str) -> Parser<'a> {
         long
     }
-    shorter(Parser::new("a"), &String::new())
-        .next_item()
-        .unwrap();
+    shorter(Parser::new("a"), "b").next_item().unwrap();
 }

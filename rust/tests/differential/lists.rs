@@ -94,7 +94,7 @@ impl Maker {
         let most = if self.random.percent(20) {
             4
         } else {
-            8 + text.len() / 2
+            4 + text.len() / 3
         };
         let trees = self.random.pick(&[0, 0, 5, 30]);
         let call = |random: &mut Random| {
