@@ -51,7 +51,7 @@ fn library(package: &Path) -> Result<PathBuf, String> {
     let archive = folder.join(ARCHIVE);
     println!("cargo::rerun-if-changed={}", crates.display());
     println!("cargo::rerun-if-changed={}", archive.display());
-    if changed(&archive) < newest(&crates) {
+    if !archive.is_file() || changed(&archive) < newest(&crates) {
         build(root)?;
     }
     Ok(folder)

@@ -60,15 +60,15 @@ fn check_good() {
     let words = ["check", "profiles/stage.sise"];
     assert_eq!(
         run(&words, b""),
-        well("profiles/stage.sise: ok, 178 nodes, 4 deep\n")
+        well("profiles/stage.sise: ok, 178 nodes, 4 lists deep\n")
     );
     assert_eq!(
         run(&["check"], b"a"),
-        well("<stdin>: ok, 1 nodes, 0 deep\n")
+        well("<stdin>: ok, 1 node, 0 lists deep\n")
     );
     assert_eq!(
         run(&["check", "-"], b" (a () ; b\n)"),
-        well("<stdin>: ok, 3 nodes, 2 deep\n")
+        well("<stdin>: ok, 3 nodes, 2 lists deep\n")
     );
 }
 
@@ -341,7 +341,7 @@ fn huge() {
     let run = |words: &[&str]| run_in(&folder, words, b"");
     let nodes = LONGEST / 2;
     let both = format!(
-        "longest: ok, {nodes} nodes, 1 deep\nlonger: ok, {} nodes, 1 deep\n",
+        "longest: ok, {nodes} nodes, 1 list deep\nlonger: ok, {} nodes, 1 list deep\n",
         nodes + 1
     );
     assert_eq!(run(&["check", "longest", "longer"]), well(&both));
@@ -362,7 +362,7 @@ fn huge() {
 fn deep() {
     const DEPTH: usize = 1_000_000;
     let text = "(".repeat(DEPTH) + &")".repeat(DEPTH);
-    let said = format!("<stdin>: ok, {DEPTH} nodes, {DEPTH} deep\n");
+    let said = format!("<stdin>: ok, {DEPTH} nodes, {DEPTH} lists deep\n");
     assert_eq!(run(&["check"], text.as_bytes()), well(&said));
     assert_eq!(
         run(&["fmt", "--width", "none"], text.as_bytes()),

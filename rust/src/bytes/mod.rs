@@ -1,6 +1,6 @@
 //! The library's own face: texts as bytes, refusals by number and place, trees as tables.
 //!
-//! The crate's API beside this module takes texts in UTF-8 and panics where it is called out of turn. Here a text is any bytes, nothing panics, and each
+//! The crate's API beside this module takes texts in UTF-8 and panics where it is called out of turn. Here a text is any bytes, what is read or handed over is refused and never panics, and each
 //! refusal has the number that docs/REFUSALS.md explains, with its place in the text, and from that its line and column.
 //!
 //! ```

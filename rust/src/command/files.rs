@@ -3,6 +3,7 @@
 use std::ffi::OsStr;
 use std::fs::{self, File};
 use std::io::{self, Read, Write};
+use std::os::unix::fs::{fchown, MetadataExt};
 use std::path::{Path, PathBuf};
 
 pub struct Source {
@@ -39,6 +40,9 @@ impl Source {
     pub fn replace(&self, text: &[u8]) -> io::Result<()> {
         // A link stays one; what it leads to is replaced.
         let path = self.path.canonicalize()?;
+        if !path.is_file() {
+            return Err(io::Error::other("no file that could be written in place"));
+        }
         let beside = beside(&path);
         let written = write_new(&beside, text, &path).and_then(|()| fs::rename(&beside, &path));
         if written.is_err() {
@@ -57,10 +61,12 @@ fn beside(path: &Path) -> PathBuf {
     path.with_file_name(name)
 }
 
-/// With the rights that the other file has.
+/// With the rights that the other file has, and its owner where that is allowed.
 fn write_new(path: &Path, text: &[u8], like: &Path) -> io::Result<()> {
     let mut file = File::create_new(path)?;
-    file.set_permissions(fs::metadata(like)?.permissions())?;
+    let data = fs::metadata(like)?;
+    let _ = fchown(&file, Some(data.uid()), Some(data.gid()));
+    file.set_permissions(data.permissions())?;
     file.write_all(text)?;
     file.sync_all()
 }

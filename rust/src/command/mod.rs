@@ -91,12 +91,18 @@ fn one_file(words: &Words, source: &Source, out: &mut Out) -> io::Result<Status>
 fn check(source: &Source, out: &mut Out) -> io::Result<Status> {
     match scan::scan(&source.text) {
         Ok(found) => {
-            let (nodes, depth) = (found.nodes, found.depth);
-            writeln!(out, "{}: ok, {nodes} nodes, {depth} deep", source.name)?;
+            let (nodes, depth) = (counted(found.nodes, "node"), counted(found.depth, "list"));
+            writeln!(out, "{}: ok, {nodes}, {depth} deep", source.name)?;
             Ok(Status::Well)
         }
         Err(fault) => Ok(faults::report(source, &fault)),
     }
+}
+
+/// So many of a thing.
+fn counted(number: usize, thing: &str) -> String {
+    let plural = if number == 1 { "" } else { "s" };
+    format!("{number} {thing}{plural}")
 }
 
 /// The lines are those of the proved program `items`, for a text of any length.
