@@ -66,9 +66,11 @@ fn build(root: &Path) -> Result<(), String> {
     match run {
         Ok(output) if output.status.success() => Ok(()),
         Ok(output) => {
-            let said = String::from_utf8_lossy(&output.stderr);
+            let said = [output.stdout, output.stderr].concat();
+            let said = String::from_utf8_lossy(&said);
             let last = said.lines().last().unwrap_or("it says nothing");
-            Err(format!("`rt staticlib sise_c` failed in {}: {last}", root.display()))
+            let root = root.display();
+            Err(format!("`rt staticlib sise_c` failed in {root}: {last}"))
         }
         Err(_) => Err(format!(
             "the proved library {ARCHIVE} is not built, or older than crates/, and Rattle's `rt` is not on the PATH: \
