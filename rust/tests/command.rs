@@ -442,8 +442,15 @@ fn help() {
     ];
     assert!(words.iter().chain(&more).all(|word| help.contains(word)));
     assert!(help.lines().all(|line| line.len() <= 88));
-    let version = format!("sise {}\n", env!("CARGO_PKG_VERSION"));
-    assert_eq!(run(&["--version"], b""), well(&version));
+    let version = env!("CARGO_PKG_VERSION");
+    assert_eq!(run(&["--version"], b""), well(&format!("sise {version}\n")));
+    // The newest version of the changes is the one that the package has behind its API's.
+    let changes = fs::read_to_string(Path::new(ROOT).join("CHANGELOG.md")).unwrap();
+    let newest = changes
+        .lines()
+        .find_map(|line| line.strip_prefix("## "))
+        .unwrap();
+    assert_eq!(version, format!("0.8.0+dutakeri.{newest}"));
 }
 
 /// Whoever reads the output may close it early.
