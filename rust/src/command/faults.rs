@@ -41,25 +41,17 @@ fn elsewhere(text: &[u8], fault: &Fault) -> Option<(usize, String)> {
     match fault.refusal.reason {
         Reason::UnexpectedEof => {
             let &innermost = fault.open.last()?;
-            Some(match fault.open.len() {
-                1 => (innermost, "this list is still open".into()),
-                2 => (
-                    innermost,
-                    "this list is still open, and so is the one around it".into(),
-                ),
-                n => (
-                    innermost,
-                    format!(
-                        "this list is still open, and so are the {} around it",
-                        n - 1
-                    ),
-                ),
-            })
+            let around = match fault.open.len() - 1 {
+                0 => String::new(),
+                1 => ", and so is the one around it".into(),
+                n => format!(", and so are the {n} around it"),
+            };
+            Some((innermost, format!("this list is still open{around}")))
         }
-        Reason::UnfinishedString => Some((
-            string_start(text, fault.from)?,
-            "this string has no end".into(),
-        )),
+        Reason::UnfinishedString => {
+            let start = string_start(text, fault.from)?;
+            Some((start, "this string has no end".into()))
+        }
         Reason::ExpectedEof => {
             let note = match text.get(fault.refusal.place?) {
                 Some(b')') => "here ended the text's one list: the `)` behind it is one too many",

@@ -7,55 +7,73 @@ use super::{faults, refused, Out, Status};
 use sise::bytes::{Layout, Tree};
 use std::io::{self, Write};
 
+/// A file in house style.
+struct Formatted {
+    text: Vec<u8>,
+    /// Whether the file has comments, which are not in the text.
+    comments: bool,
+}
+
 pub fn fmt(source: &Source, width: u64, options: Fmt, out: &mut Out) -> io::Result<Status> {
-    let found = match scan(&source.text) {
-        Ok(found) => found,
-        Err(fault) => return Ok(faults::report(source, &fault)),
+    let formatted = match formatted(source, width) {
+        Ok(formatted) => formatted,
+        Err(status) => return Ok(status),
     };
-    let tree = Tree::parse(&source.text);
-    let text = match tree.and_then(|tree| tree.root().write(Layout::house_at(width))) {
-        Ok(text) => text,
-        Err(refusal) => return Ok(refused(source, refusal)),
-    };
-    let name = &source.name;
+    if options.in_place {
+        return Ok(overwrite(source, &formatted, options.drop_comments));
+    }
     if options.check {
-        if text == source.text {
-            return Ok(Status::Well);
-        }
-        let lost = if found.comments {
-            ", and lose its comments"
-        } else {
-            ""
-        };
-        writeln!(out, "{name}: would change{lost}")?;
-        return Ok(Status::Refused);
+        return compare(source, &formatted, out);
     }
-    if !options.in_place {
-        if found.comments {
-            eprintln!("{name}: warning: its comments are not written");
-        }
-        out.write_all(&text)?;
+    if formatted.comments {
+        eprintln!("{}: warning: its comments are not written", source.name);
+    }
+    out.write_all(&formatted.text)?;
+    Ok(Status::Well)
+}
+
+/// A refusal has been shown where there is none.
+fn formatted(source: &Source, width: u64) -> Result<Formatted, Status> {
+    let found = scan(&source.text).map_err(|fault| faults::report(source, &fault))?;
+    let tree = Tree::parse(&source.text);
+    let text = tree.and_then(|tree| tree.root().write(Layout::house_at(width)));
+    let text = text.map_err(|refusal| refused(source, refusal))?;
+    Ok(Formatted {
+        text,
+        comments: found.comments,
+    })
+}
+
+fn compare(source: &Source, formatted: &Formatted, out: &mut Out) -> io::Result<Status> {
+    if formatted.text == source.text {
         return Ok(Status::Well);
     }
-    if text == source.text {
-        return Ok(Status::Well);
+    let lost = match formatted.comments {
+        true => ", and lose its comments",
+        false => "",
+    };
+    writeln!(out, "{}: would change{lost}", source.name)?;
+    Ok(Status::Refused)
+}
+
+fn overwrite(source: &Source, formatted: &Formatted, drop_comments: bool) -> Status {
+    let name = &source.name;
+    if formatted.text == source.text {
+        return Status::Well;
     }
-    if found.comments && !options.drop_comments {
-        eprintln!(
-            "{name}: not overwritten, its comments would be lost; --drop-comments overwrites it"
-        );
-        return Ok(Status::Refused);
+    if formatted.comments && !drop_comments {
+        let told = "--drop-comments overwrites it";
+        eprintln!("{name}: not overwritten, its comments would be lost; {told}");
+        return Status::Refused;
     }
-    if found.comments {
+    if let Err(error) = source.replace(&formatted.text) {
+        eprintln!("sise: {name}: {error}");
+        return Status::Failed;
+    }
+    if formatted.comments {
         eprintln!("{name}: warning: its comments are dropped");
     }
-    Ok(match source.replace(&text) {
-        Ok(()) => Status::Well,
-        Err(error) => {
-            eprintln!("sise: {name}: {error}");
-            Status::Failed
-        }
-    })
+    Status::Well
 }
 
 pub fn size(source: &Source, width: u64, out: &mut Out) -> io::Result<Status> {
@@ -65,11 +83,9 @@ pub fn size(source: &Source, width: u64, out: &mut Out) -> io::Result<Status> {
     let tree = Tree::parse(&source.text);
     match tree.and_then(|tree| tree.root().size(Layout::house_at(width))) {
         Ok(size) => {
-            writeln!(
-                out,
-                "bytes {}\nbreaks {}\nindents {}",
-                size.bytes, size.breaks, size.indents
-            )?;
+            writeln!(out, "bytes {}", size.bytes)?;
+            writeln!(out, "breaks {}", size.breaks)?;
+            writeln!(out, "indents {}", size.indents)?;
             Ok(Status::Well)
         }
         Err(refusal) => Ok(refused(source, refusal)),

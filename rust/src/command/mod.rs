@@ -125,12 +125,8 @@ fn items(source: &Source, out: &mut Out) -> io::Result<Status> {
             }
         }
     };
-    writeln!(
-        out,
-        "refused {} {}",
-        refusal.number(),
-        refusal.place.unwrap_or(0)
-    )?;
+    let (number, place) = (refusal.number(), refusal.place.unwrap_or(0));
+    writeln!(out, "refused {number} {place}")?;
     out.flush()?;
     Ok(match scan::scan(&source.text) {
         Ok(_) => Status::Well,
@@ -140,11 +136,6 @@ fn items(source: &Source, out: &mut Out) -> io::Result<Status> {
 
 /// A refusal with no place in the text.
 fn refused(source: &Source, refusal: Refusal) -> Status {
-    eprintln!(
-        "{}: refused {}: {}",
-        source.name,
-        refusal.number(),
-        refusal.reason.meaning()
-    );
+    eprintln!("{}: {refusal}", source.name);
     Status::Refused
 }
