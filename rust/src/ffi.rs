@@ -1,6 +1,6 @@
 //! The calls of the proved library, each in a safe function, and all the unsafe code of this package. include/sise.h says what each call does and what
-//! its memory has to be: pointers that are aligned and not null, lent for the time of the call, with nothing else over what the call writes. Slices and
-//! references are all of that. A call that is refused answers its number, and 0 if it is not.
+//! its memory has to be: as many elements as are named, behind an aligned pointer, lent for the time of the call, with nothing else over what the call
+//! writes. Slices and references are all of that. A call that is refused answers its number, and 0 if it is not.
 
 #![allow(unsafe_code)]
 
