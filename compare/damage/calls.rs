@@ -5,8 +5,7 @@ use crate::exported::{
     sise_atom_kind, sise_begin_list, sise_check_atom, sise_commit_tree, sise_count_items,
     sise_end_list, sise_find_path, sise_finish_reading, sise_finish_writing, sise_index_path,
     sise_measure_tree, sise_next_item, sise_parse_tree, sise_put_atom, sise_read_items,
-    sise_serialize_tree, sise_write_calls,
-    sise_write_calls_singly,
+    sise_serialize_tree, sise_write_calls, sise_write_calls_singly,
 };
 use crate::guard::{Edge, Region};
 

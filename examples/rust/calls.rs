@@ -50,7 +50,10 @@ fn print_size(result: Result<Size, Refusal>) {
         Ok(size) => (0, [size.bytes, size.breaks, size.indents]),
         Err(refusal) => (numbers(Err(refusal)).0, [0; 3]),
     };
-    println!("sise_measure_tree: {number}, {} {} {}", size[0], size[1], size[2]);
+    println!(
+        "sise_measure_tree: {number}, {} {} {}",
+        size[0], size[1], size[2]
+    );
 }
 
 /// Prints the words in a line, behind the call's number.
