@@ -1,5 +1,5 @@
 //! The calls that the static libraries sise_c and sise_singly export. A slice crosses as its first element's address and its length; it has to outlive the
-//! call, and nobody else may hold one that the call writes. `values` are two words, `size` three.
+//! call, and nobody else may hold one that the call writes. `values` are two words, `size` three, `ran` is one; a reader's record is three, an item three, a writer's nine.
 
 extern "C" {
     pub fn sise_check_atom(atom: *const u8, atom_len: usize) -> u32;
@@ -105,7 +105,71 @@ extern "C" {
         buf_len: usize,
         answers: *mut u64,
         answers_len: usize,
+        ran: *mut u64,
     ) -> u64;
+
+    pub fn sise_next_item(
+        text: *const u8,
+        text_len: usize,
+        record: *mut u64,
+        item: *mut u64,
+    ) -> u32;
+
+    pub fn sise_finish_reading(
+        text: *const u8,
+        text_len: usize,
+        record: *const u64,
+        values: *mut u64,
+    ) -> u32;
+
+    pub fn sise_put_atom(
+        line_break: *const u8,
+        line_break_len: usize,
+        indentation: *const u8,
+        indentation_len: usize,
+        buf: *mut u8,
+        buf_len: usize,
+        atom: *const u8,
+        atom_len: usize,
+        break_line_at: u64,
+        record: *mut u64,
+        values: *mut u64,
+    ) -> u32;
+
+    pub fn sise_begin_list(
+        line_break: *const u8,
+        line_break_len: usize,
+        indentation: *const u8,
+        indentation_len: usize,
+        buf: *mut u8,
+        buf_len: usize,
+        break_line_at: u64,
+        record: *mut u64,
+        values: *mut u64,
+    ) -> u32;
+
+    pub fn sise_end_list(
+        line_break: *const u8,
+        line_break_len: usize,
+        indentation: *const u8,
+        indentation_len: usize,
+        buf: *mut u8,
+        buf_len: usize,
+        record: *mut u64,
+        values: *mut u64,
+    ) -> u32;
+
+    pub fn sise_finish_writing(
+        line_break: *const u8,
+        line_break_len: usize,
+        indentation: *const u8,
+        indentation_len: usize,
+        buf: *mut u8,
+        buf_len: usize,
+        final_break: bool,
+        record: *mut u64,
+        values: *mut u64,
+    ) -> u32;
 
     pub fn sise_write_calls_singly(
         words: *const u64,

@@ -1,5 +1,5 @@
 //! The proved library and the crate sise 0.8.0 on the same texts, in one program: rounds in turn, the least time of each, and the ratio of the two.
-//! A ratio above 1 says that the library is faster.
+//! A ratio above 1 says that the library is faster. The last part has the Cargo package of rust/ in its place, call by call.
 
 extern crate alloc;
 
@@ -7,6 +7,7 @@ extern crate alloc;
 #[allow(dead_code)]
 #[path = "../exported.rs"]
 mod exported;
+mod package;
 mod trees;
 mod writing;
 
@@ -41,8 +42,10 @@ mod tree_node {
     include!(concat!(env!("SISE_SRC"), "/tree.rs"));
 }
 
+pub use parse_tree::parse_tree;
 pub use parser::{ParseError, ParsedItem, Parser};
-pub use serializer::Serializer;
+pub use serialize_tree::serialize_tree;
+pub use serializer::{Serializer, SerializerStyle};
 pub use tree_node::TreeNode;
 pub use util::{check_atom, is_atom_chr, is_atom_string_chr};
 
@@ -435,4 +438,6 @@ fn main() {
     written("one atom alone", "limit", 80);
     trees(SIZE);
     sizes(SIZE);
+    let deep = format!("{}{}", "(".repeat(SIZE / 2), ")".repeat(SIZE / 2));
+    package::rows(&profile, &list_of("x 12 -0.5 ", SIZE), &deep);
 }

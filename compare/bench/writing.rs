@@ -81,14 +81,34 @@ impl<'a> Writing<'a> {
 
     /// All calls in one, or each by the writer's method of its own.
     pub fn by_library(&mut self, singly: bool) -> u64 {
-        let run = if singly {
-            sise_write_calls_singly
-        } else {
-            sise_write_calls
-        };
-        // All six slices outlive the call, and the two that it writes are borrowed by nobody else.
+        if singly {
+            return self.by_methods();
+        }
+        let mut ran = 0;
+        // All slices outlive the call, and those that it writes are borrowed by nobody else.
         unsafe {
-            run(
+            sise_write_calls(
+                self.words.as_ptr(),
+                self.words.len(),
+                self.atoms.as_ptr(),
+                self.atoms.len(),
+                STYLE.line_break.as_ptr(),
+                STYLE.line_break.len(),
+                STYLE.indentation.as_ptr(),
+                STYLE.indentation.len(),
+                self.buffer.as_mut_ptr(),
+                self.buffer.len(),
+                self.answers.as_mut_ptr(),
+                self.answers.len(),
+                &mut ran,
+            )
+        }
+    }
+
+    fn by_methods(&mut self) -> u64 {
+        // As above.
+        unsafe {
+            sise_write_calls_singly(
                 self.words.as_ptr(),
                 self.words.len(),
                 self.atoms.as_ptr(),

@@ -2,9 +2,10 @@
 
 use crate::answers::{refused, Reported};
 use crate::exported::{
-    sise_atom_kind, sise_check_atom, sise_commit_tree, sise_count_items, sise_find_path, sise_index_path,
-    sise_measure_tree, sise_parse_tree, sise_read_items, sise_serialize_tree, sise_write_calls,
-    sise_write_calls_singly,
+    sise_atom_kind, sise_begin_list, sise_check_atom, sise_commit_tree, sise_count_items,
+    sise_end_list, sise_find_path, sise_finish_reading, sise_finish_writing, sise_index_path,
+    sise_measure_tree, sise_next_item, sise_parse_tree, sise_put_atom, sise_read_items,
+    sise_serialize_tree, sise_write_calls, sise_write_calls_singly,
 };
 use crate::guard::{Edge, Region};
 
@@ -23,9 +24,19 @@ pub struct Script {
     pub answers: Vec<u64>,
 }
 
+/// One of the writer's calls, with the atom, the threshold or the wish for a break that it takes.
+pub enum Call {
+    PutAtom { atom: Vec<u8>, break_line_at: u64 },
+    BeginList { break_line_at: u64 },
+    EndList,
+    Finish { final_break: bool },
+}
+
 /// What a list of calls leaves.
 #[derive(PartialEq)]
 pub struct Wrote {
+    /// How many calls ran, where the call says so.
+    pub ran: Option<u64>,
     pub position: u64,
     pub buffer: Vec<u8>,
     pub answers: Vec<u64>,
@@ -51,6 +62,14 @@ impl Measured {
     }
 }
 
+impl Wrote {
+    /// The same, but for how many calls ran.
+    pub fn same(&self, other: &Self) -> bool {
+        (self.position, &self.buffer, &self.answers)
+            == (other.position, &other.buffer, &other.answers)
+    }
+}
+
 /// Memory for each slice that a call takes.
 pub struct Calls {
     pub made: u64,
@@ -62,6 +81,8 @@ pub struct Calls {
     filled: Region,
     buffer: Region,
     answers: Region,
+    record: Region,
+    read: Region,
     values: Region,
 }
 
@@ -91,6 +112,8 @@ impl Calls {
             filled: Region::writable(),
             buffer: Region::writable(),
             answers: Region::writable(),
+            record: Region::writable(),
+            read: Region::read_only(),
             values: Region::writable(),
         }
     }
@@ -312,31 +335,155 @@ impl Calls {
         let indentation = self.indentation.lend(&script.style.indentation, edge);
         let buffer = self.buffer.lend(buffer, edge);
         let answers = self.answers.lend(&script.answers, edge);
-        let run = if singly {
-            sise_write_calls_singly
-        } else {
-            sise_write_calls
-        };
+        let ran = self.values.lend(&BEFORE[..1], edge);
         let position = unsafe {
-            run(
-                words.first(),
-                words.len(),
-                atoms.first(),
-                atoms.len(),
-                line_break.first(),
-                line_break.len(),
-                indentation.first(),
-                indentation.len(),
-                buffer.first(),
-                buffer.len(),
-                answers.first(),
-                answers.len(),
-            )
+            if singly {
+                sise_write_calls_singly(
+                    words.first(),
+                    words.len(),
+                    atoms.first(),
+                    atoms.len(),
+                    line_break.first(),
+                    line_break.len(),
+                    indentation.first(),
+                    indentation.len(),
+                    buffer.first(),
+                    buffer.len(),
+                    answers.first(),
+                    answers.len(),
+                )
+            } else {
+                sise_write_calls(
+                    words.first(),
+                    words.len(),
+                    atoms.first(),
+                    atoms.len(),
+                    line_break.first(),
+                    line_break.len(),
+                    indentation.first(),
+                    indentation.len(),
+                    buffer.first(),
+                    buffer.len(),
+                    answers.first(),
+                    answers.len(),
+                    ran.first(),
+                )
+            }
         };
         Wrote {
+            ran: (!singly).then(|| ran.values()[0]),
             position,
             buffer: buffer.values(),
             answers: answers.values(),
         }
     }
+
+    /// The number, the item's words, and the record's after the call.
+    pub fn next_item(
+        &mut self,
+        text: &[u8],
+        record: [u64; 3],
+        edge: Edge,
+    ) -> (u32, [u64; 3], [u64; 3]) {
+        self.made += 1;
+        let text = self.text.lend(text, edge);
+        let record = self.record.lend(&record, edge);
+        let item = self.values.lend(&[u64::MAX; 3], edge);
+        let number =
+            unsafe { sise_next_item(text.first(), text.len(), record.first(), item.first()) };
+        (number, array(item.values()), array(record.values()))
+    }
+
+    pub fn finish_reading(&mut self, text: &[u8], record: [u64; 3], edge: Edge) -> Reported {
+        self.made += 1;
+        let text = self.text.lend(text, edge);
+        let record = self.read.lend(&record, edge);
+        let values = self.values.lend(&BEFORE, edge);
+        let number = unsafe {
+            sise_finish_reading(text.first(), text.len(), record.first(), values.first())
+        };
+        reported(number, &values.values())
+    }
+
+    /// The answer, and the record's words and the buffer after the call.
+    pub fn write_one(
+        &mut self,
+        call: &Call,
+        style: &Style,
+        buffer: &[u8],
+        record: [u64; 9],
+        edge: Edge,
+    ) -> (Reported, [u64; 9], Vec<u8>) {
+        self.made += 1;
+        let line_break = self.line_break.lend(&style.line_break, edge);
+        let indentation = self.indentation.lend(&style.indentation, edge);
+        let buffer = self.buffer.lend(buffer, edge);
+        let record = self.record.lend(&record, edge);
+        let values = self.values.lend(&BEFORE, edge);
+        let number = unsafe {
+            match call {
+                Call::PutAtom {
+                    atom,
+                    break_line_at,
+                } => {
+                    let atom = self.text.lend(atom, edge);
+                    sise_put_atom(
+                        line_break.first(),
+                        line_break.len(),
+                        indentation.first(),
+                        indentation.len(),
+                        buffer.first(),
+                        buffer.len(),
+                        atom.first(),
+                        atom.len(),
+                        *break_line_at,
+                        record.first(),
+                        values.first(),
+                    )
+                }
+                Call::BeginList { break_line_at } => sise_begin_list(
+                    line_break.first(),
+                    line_break.len(),
+                    indentation.first(),
+                    indentation.len(),
+                    buffer.first(),
+                    buffer.len(),
+                    *break_line_at,
+                    record.first(),
+                    values.first(),
+                ),
+                Call::EndList => sise_end_list(
+                    line_break.first(),
+                    line_break.len(),
+                    indentation.first(),
+                    indentation.len(),
+                    buffer.first(),
+                    buffer.len(),
+                    record.first(),
+                    values.first(),
+                ),
+                Call::Finish { final_break } => sise_finish_writing(
+                    line_break.first(),
+                    line_break.len(),
+                    indentation.first(),
+                    indentation.len(),
+                    buffer.first(),
+                    buffer.len(),
+                    *final_break,
+                    record.first(),
+                    values.first(),
+                ),
+            }
+        };
+        (
+            reported(number, &values.values()),
+            array(record.values()),
+            buffer.values(),
+        )
+    }
+}
+
+/// As many words as were lent.
+fn array<const N: usize>(words: Vec<u64>) -> [u64; N] {
+    words.try_into().expect("so many words were lent")
 }

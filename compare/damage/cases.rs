@@ -1,14 +1,17 @@
-//! One case of a seed, by its number: a text that is read, a table, a list of the writer's calls, or bytes that may be an atom.
+//! One case of a seed, by its number: a text that is read, a table, a list of the writer's calls, bytes that may be an atom, or a single call over the words
+//! of a record.
 
 use crate::answers::Check;
-use crate::calls::Calls;
+use crate::calls::{Call, Calls};
 use crate::damage::damage;
 use crate::kinds;
 use crate::numbers::{bytes, hostile, len, threshold};
 use crate::random::Random;
 use crate::reading;
+use crate::records;
 use crate::scripts::script;
 use crate::shown::{bytes_shown, tree_shown, writing_shown};
+use crate::singly;
 use crate::styles::style;
 use crate::tables::{table, words};
 use crate::texts::{good, Texts};
@@ -17,11 +20,13 @@ use crate::writing::Writing;
 
 pub fn run(calls: &mut Calls, texts: &Texts, seed: u64, number: u64) -> Check {
     let mut random = Random::new(seed << 32 ^ number);
-    match random.below(10) {
+    match random.below(12) {
         0..=2 => read(calls, &mut random, texts),
         3..=5 => held(calls, &mut random, texts),
         6..=8 => written(calls, &mut random, texts),
-        _ => checked(calls, &mut random, texts),
+        9 => checked(calls, &mut random, texts),
+        10 => read_on(calls, &mut random, texts),
+        _ => written_on(calls, &mut random, texts),
     }
 }
 
@@ -65,12 +70,46 @@ fn written(calls: &mut Calls, random: &mut Random, texts: &Texts) -> Check {
 }
 
 fn checked(calls: &mut Calls, random: &mut Random, texts: &Texts) -> Check {
-    let bytes = if random.percent(80) {
+    let bytes = atom(random, texts);
+    kinds::check_read(calls, &bytes).map_err(|rule| format!("{rule}; {}", bytes_shown(&bytes)))
+}
+
+/// A reader's record of any words.
+fn read_on(calls: &mut Calls, random: &mut Random, texts: &Texts) -> Check {
+    let text = texts.text(random);
+    let words = records::reader(random, text.len());
+    singly::check_reader(calls, &text, words)
+        .map_err(|rule| format!("{rule}; record {words:x?}; {}", bytes_shown(&text)))
+}
+
+/// A writer's record of any words.
+fn written_on(calls: &mut Calls, random: &mut Random, texts: &Texts) -> Check {
+    let room = len(random);
+    let (style, buffer) = (style(random), bytes(random, room));
+    let words = records::writer(random, room);
+    let break_line_at = threshold(random);
+    let call = match random.below(5) {
+        0..=1 => Call::PutAtom {
+            atom: atom(random, texts),
+            break_line_at,
+        },
+        2 => Call::BeginList { break_line_at },
+        3 => Call::EndList,
+        _ => Call::Finish {
+            final_break: random.percent(50),
+        },
+    };
+    singly::check_writer(calls, &call, &style, &buffer, words)
+        .map_err(|rule| format!("{rule}; record {words:x?}; buffer of {room} bytes"))
+}
+
+/// Mostly an atom.
+fn atom(random: &mut Random, texts: &Texts) -> Vec<u8> {
+    if random.percent(80) {
         kinds::bytes(random)
     } else {
         texts.text(random)
-    };
-    kinds::check_read(calls, &bytes).map_err(|rule| format!("{rule}; {}", bytes_shown(&bytes)))
+    }
 }
 
 fn tree(random: &mut Random, text: Vec<u8>, table: Vec<u32>) -> Tree {

@@ -31,7 +31,7 @@ const PRIVATE: c_int = 2;
 const FIXED: c_int = 16;
 const ANONYMOUS: c_int = 32;
 
-/// The page that a lent slice touches: the one behind its end or the one before its beginning.
+/// The page that a lent slice touches: the one behind its end or the one before its beginning. An empty slice of the second is NULL.
 #[derive(Clone, Copy)]
 pub enum Edge {
     End,
@@ -91,8 +91,12 @@ impl Region {
         let kept = self.kept.wrapping_add(offset).cast::<T>();
         // The kept view has room from the offset on, and the sizes of T divide the page's.
         unsafe { kept.copy_from_nonoverlapping(values.as_ptr(), values.len()) };
+        let first = match edge {
+            Edge::Beginning if values.is_empty() => null_mut(),
+            _ => self.lent.wrapping_add(offset).cast(),
+        };
         Lent {
-            first: self.lent.wrapping_add(offset).cast(),
+            first,
             kept,
             len: values.len(),
             region: PhantomData,

@@ -4,20 +4,23 @@ use crate::answers::{ensure, only_first, refusal, refused, twice, Check};
 use crate::calls::{Calls, Script};
 use crate::guard::Edge;
 use crate::limits::lines;
+use crate::singly;
 
 /// Reads the items into words of several lengths. `parsed` is what parse_tree answers of the text, `count` how many items count_items gives.
 pub fn check(calls: &mut Calls, text: &[u8], parsed: u64, count: u64) -> Check {
     // "A text of n bytes has at most n items."
     let (whole, words) = read(calls, text, &vec![u64::MAX; 4 * text.len()])?;
     if refusal(parsed).is_some() {
-        return ensure(
+        ensure(
             whole == parsed,
             "read_items: the same refusal as parse_tree's",
-        );
+        )?;
+        return singly::check_reading(calls, text, whole, &[]);
     }
     ensure(whole == count, "read_items: as many items as count_items")?;
     let words = &words[..4 * whole as usize];
     in_order(text, words)?;
+    singly::check_reading(calls, text, whole, words)?;
     let (short, _) = read(calls, text, &words[1..])?;
     ensure(short == refused(14), "read_items: one word short")?;
     let (full, same) = read(calls, text, words)?;

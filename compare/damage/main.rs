@@ -23,9 +23,11 @@ mod profile;
 #[path = "../src/random.rs"]
 mod random;
 mod reading;
+mod records;
 mod reprint;
 mod scripts;
 mod shown;
+mod singly;
 mod styles;
 mod tables;
 mod texts;

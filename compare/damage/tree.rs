@@ -121,8 +121,8 @@ impl Tree {
             ensure(measured.size == [0; 3], "measure_tree: refused, no size")?;
         } else {
             ensure(bytes > 0, "measure_tree: some bytes")?;
-            let layout = breaks * style.line_break.len() as u64
-                + indents * style.indentation.len() as u64;
+            let layout =
+                breaks * style.line_break.len() as u64 + indents * style.indentation.len() as u64;
             ensure(layout < bytes, "measure_tree: the layout is less than all")?;
             ensure(
                 breaks >= u64::from(last),
@@ -181,9 +181,7 @@ impl Tree {
         } = self;
         let (threshold, last) = (self.break_line_at, self.final_break);
         let (reported, after) = twice(|edge| {
-            calls.commit_tree(
-                style, buffer, text, table, threshold, last, size, edge,
-            )
+            calls.commit_tree(style, buffer, text, table, threshold, last, size, edge)
         })?;
         Ok((reported.answer(text.len())?, after))
     }

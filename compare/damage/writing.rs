@@ -2,6 +2,7 @@
 
 use crate::answers::{ensure, only_first, refusal, refused, twice, Check};
 use crate::calls::{Calls, Script, Wrote};
+use crate::singly;
 
 /// The refusals of each kind of call that a fresh record leads to: put_atom, begin_list, end_list, finish without and with a break.
 const OF_KIND: [&[u64]; 5] = [
@@ -23,6 +24,15 @@ pub struct Writing {
 impl Writing {
     pub fn check(&self, calls: &mut Calls) -> Check {
         let wrote = wrote(calls, &self.script, &self.buffer)?;
+        let (answers, ran) = (&wrote.answers, kinds(&self.script).len());
+        singly::check_script(
+            calls,
+            &self.script,
+            &self.buffer,
+            answers,
+            &wrote.buffer,
+            ran,
+        )?;
         self.check_rooms(calls, &wrote)?;
         self.check_last(calls, &wrote)
     }
@@ -83,13 +93,14 @@ fn kinds(script: &Script) -> Vec<u64> {
 fn wrote(calls: &mut Calls, script: &Script, before: &[u8]) -> Check<Wrote> {
     let wrote = twice(|edge| calls.write(script, before, false, edge))?;
     let singly = twice(|edge| calls.write(script, before, true, edge))?;
-    ensure(wrote == singly, "write_calls: the same as singly")?;
+    ensure(wrote.same(&singly), "write_calls: the same as singly")?;
     ensure(
         only_first(before, &wrote.buffer, wrote.position),
         "write_calls: the bytes past the position are as before",
     )?;
     let kinds = kinds(script);
     let count = kinds.len() as u64;
+    ensure(wrote.ran == Some(count), "write_calls: how many calls ran")?;
     ensure(
         only_first(&script.answers, &wrote.answers, count),
         "write_calls: the words past the answers are as before",

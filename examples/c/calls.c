@@ -38,6 +38,15 @@ static void print_bytes(const uint8_t *bytes, size_t len) {
     putchar('\n');
 }
 
+/* Prints the words in a line, behind the call's number. */
+static void print_line(const char *call, uint32_t number, const uint64_t *words, size_t len) {
+    printf("%s: %u,", call, (unsigned)number);
+    for (size_t i = 0; i < len; i++) {
+        printf(" %llu", (unsigned long long)words[i]);
+    }
+    putchar('\n');
+}
+
 /* Prints the words, four a line. */
 static void print_words(const uint64_t *words, size_t len) {
     for (size_t i = 0; i < len; i++) {
@@ -157,11 +166,55 @@ static void write_items(void) {
         words[4 * i + 3] = 9;
     }
     words[4 * ITEMS] = 4;
+    uint64_t ran[1] = {UNTOUCHED};
     uint64_t written = sise_write_calls(words, 4 * ITEMS + 4, BYTES(PROFILE), LINE_BREAK, INDENTATION, buf, BUFFER, answers,
-                                        ITEMS + 2);
-    printf("sise_write_calls: %llu\n", (unsigned long long)written);
+                                        ITEMS + 2, ran);
+    printf("sise_write_calls: %llu, %llu\n", (unsigned long long)written, (unsigned long long)ran[0]);
     print_words(answers, ITEMS + 2);
     print_bytes(buf, BUFFER);
+}
+
+/* Reads a text item by item up to its first refusal, reads on behind that, and asks twice whether the text ends. */
+static void read_one_by_one(void) {
+    uint64_t record[3] = {0}, item[3] = {UNTOUCHED, UNTOUCHED, UNTOUCHED}, values[2] = {UNTOUCHED, UNTOUCHED};
+    for (int i = 0; i < 5; i++) {
+        uint32_t number = sise_next_item(BYTES("(ab ,) c"), record, item);
+        print_line("sise_next_item", number, item, 3);
+        print_line("its record", number, record, 3);
+        number = sise_finish_reading(BYTES("(ab ,) c"), record, values);
+        print_result("sise_finish_reading", number, values);
+    }
+}
+
+/* Prints what a call answers, and the record and the buffer that it leaves. */
+static void print_call(const char *call, uint32_t number, const uint64_t values[2], const uint64_t record[9], const uint8_t *buf) {
+    print_result(call, number, values);
+    print_line("its record", number, record, 9);
+    print_bytes(buf, BUFFER);
+}
+
+/* Writes a list one call after the other. */
+static void write_one_by_one(void) {
+    uint64_t record[9] = {0}, values[2] = {UNTOUCHED, UNTOUCHED};
+    uint8_t buf[BUFFER];
+    memset(buf, UNTOUCHED, BUFFER);
+    uint32_t number = sise_begin_list(LINE_BREAK, INDENTATION, buf, BUFFER, 7, record, values);
+    print_call("sise_begin_list", number, values, record, buf);
+    number = sise_put_atom(LINE_BREAK, INDENTATION, buf, BUFFER, BYTES("abcdef"), 7, record, values);
+    print_call("sise_put_atom", number, values, record, buf);
+    number = sise_begin_list(LINE_BREAK, INDENTATION, buf, BUFFER, 7, record, values);
+    print_call("sise_begin_list", number, values, record, buf);
+    number = sise_put_atom(LINE_BREAK, INDENTATION, buf, BUFFER, BYTES("g h"), 7, record, values);
+    print_call("sise_put_atom", number, values, record, buf);
+    for (int i = 0; i < 3; i++) {
+        number = sise_end_list(LINE_BREAK, INDENTATION, buf, BUFFER, record, values);
+        print_call("sise_end_list", number, values, record, buf);
+    }
+    number = sise_finish_writing(LINE_BREAK, INDENTATION, buf, BUFFER, true, record, values);
+    print_call("sise_finish_writing", number, values, record, buf);
+    record[4] = 2;
+    number = sise_end_list(LINE_BREAK, INDENTATION, buf, BUFFER, record, values);
+    print_call("sise_end_list", number, values, record, buf);
 }
 
 /* A text of spaces as long as a tree call reads, and one of a byte more: row 13 of document 01. */
@@ -190,6 +243,8 @@ int main(void) {
     commit_table(table);
     write_house();
     write_items();
+    read_one_by_one();
+    write_one_by_one();
     read_longest();
     return 0;
 }

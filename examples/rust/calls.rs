@@ -27,7 +27,13 @@ fn numbers(result: Result<usize, Refusal>) -> (u32, u64, u64) {
         Ok(answer) => (0, answer as u64, 0),
         Err(Refusal::IllegalChr { place, chr }) => (1, place, u64::from(u32::from(chr))),
         Err(Refusal::UnexpectedEof { place }) => (5, place, 0),
+        Err(Refusal::ExpectedEof { place }) => (7, place, 0),
+        Err(Refusal::ParsingFinished) => (9, 0, 0),
+        Err(Refusal::ParsingNotFinished) => (10, 0, 0),
+        Err(Refusal::UnsoundRecord) => (11, 0, 0),
         Err(Refusal::TextTooLong) => (13, 0, 0),
+        Err(Refusal::InvalidAtom) => (17, 0, 0),
+        Err(Refusal::WritingFinished) => (19, 0, 0),
         Err(Refusal::NoRoom) => (22, 0, 0),
         Err(Refusal::SizeChanged) => (23, 0, 0),
         Err(refusal) => panic!("{refusal}"),
@@ -44,7 +50,16 @@ fn print_size(result: Result<Size, Refusal>) {
         Ok(size) => (0, [size.bytes, size.breaks, size.indents]),
         Err(refusal) => (numbers(Err(refusal)).0, [0; 3]),
     };
-    println!("sise_measure_tree: {number}, {} {} {}", size[0], size[1], size[2]);
+    println!(
+        "sise_measure_tree: {number}, {} {} {}",
+        size[0], size[1], size[2]
+    );
+}
+
+/// Prints the words in a line, behind the call's number.
+fn print_line(call: &str, number: u32, words: &[u64]) {
+    let words: Vec<String> = words.iter().map(u64::to_string).collect();
+    println!("{call}: {number}, {}", words.join(" "));
 }
 
 /// Prints the words, four a line.
@@ -153,10 +168,59 @@ fn write_items() {
         call[3] = 9;
     }
     words[4 * ITEMS] = 4;
-    let written = sise::write_calls(&words, PROFILE, STYLE, &mut buf, &mut answers);
-    println!("sise_write_calls: {written}");
+    let (written, ran) = sise::write_calls(&words, PROFILE, STYLE, &mut buf, &mut answers);
+    println!("sise_write_calls: {written}, {ran}");
     print_words(answers);
     print_bytes(&buf);
+}
+
+/// Reads a text item by item up to its first refusal, reads on behind that, and asks twice whether the text ends.
+fn read_one_by_one() {
+    let text = b"(ab ,) c";
+    let mut record = [0; 3];
+    for _ in 0..5 {
+        let (number, item) = match sise::next_item(text, &mut record) {
+            Ok(item) => (0, item),
+            Err(refusal) => {
+                let (number, place, code) = numbers(Err(refusal));
+                (number, [0, place, code])
+            }
+        };
+        print_line("sise_next_item", number, &item);
+        print_line("its record", number, &record);
+        print_result("sise_finish_reading", sise::finish_reading(text, &record));
+    }
+}
+
+/// Prints what a call answers, and the record and the buffer that it leaves.
+fn print_call(call: &str, result: Result<usize, Refusal>, record: &[u64; 9], buf: &[u8]) {
+    let (number, first, second) = numbers(result);
+    print_line(call, number, &[first, second]);
+    print_line("its record", number, record);
+    print_bytes(buf);
+}
+
+/// Writes a list one call after the other.
+fn write_one_by_one() {
+    let mut record = [0; 9];
+    let mut buf = [UNTOUCHED; BUFFER];
+    let result = sise::begin_list(STYLE, &mut buf, 7, &mut record);
+    print_call("sise_begin_list", result, &record, &buf);
+    let result = sise::put_atom(STYLE, &mut buf, b"abcdef", 7, &mut record);
+    print_call("sise_put_atom", result, &record, &buf);
+    let result = sise::begin_list(STYLE, &mut buf, 7, &mut record);
+    print_call("sise_begin_list", result, &record, &buf);
+    let result = sise::put_atom(STYLE, &mut buf, b"g h", 7, &mut record);
+    print_call("sise_put_atom", result, &record, &buf);
+    for _ in 0..3 {
+        let result = sise::end_list(STYLE, &mut buf, &mut record);
+        print_call("sise_end_list", result, &record, &buf);
+    }
+    let result = sise::finish_writing(STYLE, &mut buf, true, &mut record);
+    print_call("sise_finish_writing", result, &record, &buf);
+    record[4] = 2;
+    let result = sise::end_list(STYLE, &mut buf, &mut record);
+    print_call("sise_end_list", result, &record, &buf);
 }
 
 /// A text of spaces as long as a tree call reads, and one of a byte more: row 13 of document 01.
@@ -179,5 +243,7 @@ fn main() {
     commit_table(&table);
     write_house();
     write_items();
+    read_one_by_one();
+    write_one_by_one();
     read_longest();
 }

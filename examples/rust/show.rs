@@ -45,7 +45,12 @@ impl Profile {
     }
 
     /// That text, if it is still of this size.
-    fn committed(&self, subtree: &[u32], break_line_at: u64, size: Size) -> Result<String, Refusal> {
+    fn committed(
+        &self,
+        subtree: &[u32],
+        break_line_at: u64,
+        size: Size,
+    ) -> Result<String, Refusal> {
         let mut buf = vec![0; size.bytes as usize];
         let (style, text) = (Style::HOUSE, &self.text);
         sise::commit_tree(style, &mut buf, text, subtree, break_line_at, true, size)?;

@@ -14,6 +14,9 @@ pub enum Refusal {
     UnexpectedRightParen { place: u64 },
     ExpectedEof { place: u64 },
     IllFormedChr { place: u64 },
+    ParsingFinished,
+    ParsingNotFinished,
+    UnsoundRecord,
     TextTooLong,
     TableFull,
     NotATree,
@@ -39,6 +42,9 @@ impl Refusal {
             6 => Self::UnexpectedRightParen { place },
             7 => Self::ExpectedEof { place },
             8 => Self::IllFormedChr { place },
+            9 => Self::ParsingFinished,
+            10 => Self::ParsingNotFinished,
+            11 => Self::UnsoundRecord,
             13 => Self::TextTooLong,
             14 => Self::TableFull,
             15 => Self::NotATree,
@@ -81,6 +87,9 @@ impl Display for Refusal {
             Self::UnexpectedRightParen { place } => at(f, 6, place, "a ) that closes no list"),
             Self::ExpectedEof { place } => at(f, 7, place, "more than one list or atom"),
             Self::IllFormedChr { place } => at(f, 8, place, "bytes that are not UTF-8"),
+            Self::ParsingFinished => of(f, 9, "the last item is read"),
+            Self::ParsingNotFinished => of(f, 10, "the last item is not read yet"),
+            Self::UnsoundRecord => of(f, 11, "no record of such a text or buffer"),
             Self::TextTooLong => of(f, 13, "too long"),
             Self::TableFull => of(f, 14, "no room for what was read"),
             Self::NotATree => of(f, 15, "the table holds no tree"),
@@ -320,14 +329,15 @@ pub fn read_items(text: &[u8], words: &mut [u64]) -> Result<usize, Refusal> {
     })
 }
 
-/// Runs a list of writer calls, four words a call: the number of bytes written. `answer` reads a word of the answers.
+/// Runs a list of writer calls, four words a call: the number of bytes written, and how many calls ran. `answer` reads a word of the answers.
 pub fn write_calls(
     words: &[u64],
     atoms: &[u8],
     style: Style,
     buf: &mut [u8],
     answers: &mut [u64],
-) -> usize {
+) -> (usize, usize) {
+    let mut ran = [0];
     let written = unsafe {
         raw::sise_write_calls(
             words.as_ptr(),
@@ -342,9 +352,10 @@ pub fn write_calls(
             buf.len(),
             answers.as_mut_ptr(),
             answers.len(),
+            &mut ran,
         )
     };
-    written as usize
+    (written as usize, ran[0] as usize)
 }
 
 /// An answer of `write_calls`: the offset of what a call wrote.
@@ -353,6 +364,107 @@ pub fn answer(word: u64) -> Result<usize, Refusal> {
         None => Ok(word as usize),
         Some(number) => Err(Refusal::new(number as u32, [0; 2])),
     }
+}
+
+/// Reads the next item of a text: its kind, place and length. The record begins with zeros, and each call leaves it for the next.
+pub fn next_item(text: &[u8], record: &mut [u64; 3]) -> Result<[u64; 3], Refusal> {
+    let mut item = [0; 3];
+    match unsafe { raw::sise_next_item(text.as_ptr(), text.len(), record, &mut item) } {
+        0 => Ok(item),
+        number => Err(Refusal::new(number, [item[1], item[2]])),
+    }
+}
+
+/// Whether nothing stands behind the last item.
+pub fn finish_reading(text: &[u8], record: &[u64; 3]) -> Result<usize, Refusal> {
+    answered(|values| unsafe {
+        raw::sise_finish_reading(text.as_ptr(), text.len(), record, values)
+    })
+}
+
+/// Puts an atom: its offset. The record begins with zeros, and each call leaves it for the next.
+pub fn put_atom(
+    style: Style,
+    buf: &mut [u8],
+    atom: &[u8],
+    break_line_at: u64,
+    record: &mut [u64; 9],
+) -> Result<usize, Refusal> {
+    answered(|values| unsafe {
+        raw::sise_put_atom(
+            style.line_break.as_ptr(),
+            style.line_break.len(),
+            style.indentation.as_ptr(),
+            style.indentation.len(),
+            buf.as_mut_ptr(),
+            buf.len(),
+            atom.as_ptr(),
+            atom.len(),
+            break_line_at,
+            record,
+            values,
+        )
+    })
+}
+
+/// Begins a list: the offset of its `(`.
+pub fn begin_list(
+    style: Style,
+    buf: &mut [u8],
+    break_line_at: u64,
+    record: &mut [u64; 9],
+) -> Result<usize, Refusal> {
+    answered(|values| unsafe {
+        raw::sise_begin_list(
+            style.line_break.as_ptr(),
+            style.line_break.len(),
+            style.indentation.as_ptr(),
+            style.indentation.len(),
+            buf.as_mut_ptr(),
+            buf.len(),
+            break_line_at,
+            record,
+            values,
+        )
+    })
+}
+
+/// Ends the innermost open list: the offset of its `)`.
+pub fn end_list(style: Style, buf: &mut [u8], record: &mut [u64; 9]) -> Result<usize, Refusal> {
+    answered(|values| unsafe {
+        raw::sise_end_list(
+            style.line_break.as_ptr(),
+            style.line_break.len(),
+            style.indentation.as_ptr(),
+            style.indentation.len(),
+            buf.as_mut_ptr(),
+            buf.len(),
+            record,
+            values,
+        )
+    })
+}
+
+/// Ends the text: its length.
+pub fn finish_writing(
+    style: Style,
+    buf: &mut [u8],
+    final_break: bool,
+    record: &mut [u64; 9],
+) -> Result<usize, Refusal> {
+    answered(|values| unsafe {
+        raw::sise_finish_writing(
+            style.line_break.as_ptr(),
+            style.line_break.len(),
+            style.indentation.as_ptr(),
+            style.indentation.len(),
+            buf.as_mut_ptr(),
+            buf.len(),
+            final_break,
+            record,
+            values,
+        )
+    })
 }
 
 /// What a call answers in its two values, or its refusal.
@@ -468,6 +580,70 @@ mod raw {
             buf_len: usize,
             answers: *mut u64,
             answers_len: usize,
+            ran: *mut [u64; 1],
         ) -> u64;
+
+        pub fn sise_next_item(
+            text: *const u8,
+            text_len: usize,
+            record: *mut [u64; 3],
+            item: *mut [u64; 3],
+        ) -> u32;
+
+        pub fn sise_finish_reading(
+            text: *const u8,
+            text_len: usize,
+            record: *const [u64; 3],
+            values: *mut [u64; 2],
+        ) -> u32;
+
+        pub fn sise_put_atom(
+            line_break: *const u8,
+            line_break_len: usize,
+            indentation: *const u8,
+            indentation_len: usize,
+            buf: *mut u8,
+            buf_len: usize,
+            atom: *const u8,
+            atom_len: usize,
+            break_line_at: u64,
+            record: *mut [u64; 9],
+            values: *mut [u64; 2],
+        ) -> u32;
+
+        pub fn sise_begin_list(
+            line_break: *const u8,
+            line_break_len: usize,
+            indentation: *const u8,
+            indentation_len: usize,
+            buf: *mut u8,
+            buf_len: usize,
+            break_line_at: u64,
+            record: *mut [u64; 9],
+            values: *mut [u64; 2],
+        ) -> u32;
+
+        pub fn sise_end_list(
+            line_break: *const u8,
+            line_break_len: usize,
+            indentation: *const u8,
+            indentation_len: usize,
+            buf: *mut u8,
+            buf_len: usize,
+            record: *mut [u64; 9],
+            values: *mut [u64; 2],
+        ) -> u32;
+
+        pub fn sise_finish_writing(
+            line_break: *const u8,
+            line_break_len: usize,
+            indentation: *const u8,
+            indentation_len: usize,
+            buf: *mut u8,
+            buf_len: usize,
+            final_break: bool,
+            record: *mut [u64; 9],
+            values: *mut [u64; 2],
+        ) -> u32;
     }
 }

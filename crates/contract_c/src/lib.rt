@@ -1,4 +1,4 @@
-// Every exported call of sise_c, by its name without `sise_`, under the contract that it has there and with a body that only calls it: the promises of the
+// Every exported call of sise_c that does a whole job, by its name without `sise_`, under the contract that it has there and with a body that only calls it: the promises of the
 // library on one page. An edit of must-fail/ puts a wrong program in the place of a body, and the contract has to refuse it.
 use sise_c::sise_atom_kind;
 use sise_c::sise_check_atom;
@@ -11,9 +11,11 @@ use sise_c::sise_read_items;
 use sise_c::sise_serialize_tree;
 use sise_c::sise_write_calls;
 ghost use mathlib.Core.Path.{_≡_};
+ghost use mathlib.Core.List.{[], _∷_};
+ghost use lib.ListN.{length};
 ghost use Rattle.sise_util.specs.Atom.{isAtom, kindOf, kindNumber};
 ghost use Rattle.sise_serializer.specs.Serializer.{style};
-ghost use Rattle.sise_serializer.specs.Words.{WritesCalls};
+ghost use Rattle.sise_serializer.specs.Words.{callsOf, WritesCalls};
 ghost use Rattle.sise_tree.specs.IndexPath.{indexPath};
 ghost use Rattle.sise_tree.specs.FindPath.{findPath};
 ghost use Rattle.sise_tree.specs.ParseText.{parseText};
@@ -26,6 +28,9 @@ pub type Values = [u64; 2];
 
 // The size of a tree: its bytes, line breaks and indentations.
 pub type Size = [u64; 3];
+
+// How many calls of a list ran.
+pub type CallCount = [u64; 1];
 
 // Whether the bytes are an atom: 0 or 17.
 pub fn check_atom(atom: &[u8]) -> u32
@@ -150,7 +155,7 @@ pub fn read_items(text: &[u8], words: &mut [u64], values: &mut Values) -> u32
     sise_read_items(text, words, values)
 }
 
-// Runs a list of writer calls. The result is how many bytes of the buffer are written.
+// Runs a list of writer calls. The result is how many bytes of the buffer are written, `ran` how many calls ran.
 pub fn write_calls(
     words: &[u64],
     atoms: &[u8],
@@ -158,8 +163,10 @@ pub fn write_calls(
     indentation: &[u8],
     buf: &mut [u8],
     answers: &mut [u64],
+    ran: &mut CallCount,
 ) -> u64
-    ensures { λ r. ⌜ WritesCalls (style (now («line_break» .entry)) (now (indentation .entry))) (now (words .entry)) (now (atoms .entry)) (now (buf .entry)) (now (answers .entry)) r (now (buf .exit)) (now (answers .exit)) ⌝ }
+    ensures writes { λ r. ⌜ WritesCalls (style (now («line_break» .entry)) (now (indentation .entry))) (now (words .entry)) (now (atoms .entry)) (now (buf .entry)) (now (answers .entry)) r (now (buf .exit)) (now (answers .exit)) ⌝ }
+    ensures ran { λ r. ⌜ now (ran .exit) ≡ length (callsOf (now (words .entry)) (now (atoms .entry)) (length (now (answers .entry)))) ∷ [] ⌝ }
 {
-    sise_write_calls(words, atoms, line_break, indentation, buf, answers)
+    sise_write_calls(words, atoms, line_break, indentation, buf, answers, ran)
 }

@@ -3,6 +3,7 @@
 // to refuse it.
 use sise_serializer::Put;
 use sise_serializer::Ran;
+use sise_serializer::Serializer;
 use sise_serializer::Spot;
 ghost use mathlib.Core.Path.{_≡_};
 ghost use mathlib.Core.List.{_++_};
@@ -10,7 +11,7 @@ ghost use Prim.Native.Nat.{_+_, _*_};
 ghost use Rattle.sise_serializer.specs.Bytes.{pastedIf, repeat};
 ghost use Rattle.sise_serializer.specs.Parts.{spotOf};
 ghost use Rattle.sise_serializer.specs.Serializer.{style, answerAs};
-ghost use Rattle.sise_serializer.specs.Words.{answerWord, hasCall, Runs};
+ghost use Rattle.sise_serializer.specs.Words.{answerWord, hasCall, Runs, RunsFrom};
 
 // ---- calls.rt
 
@@ -26,6 +27,21 @@ pub fn write_calls(
     ensures { λ r. ⌜ Runs (style (now («line_break» .entry)) (now (indentation .entry))) (now (words .entry)) (now (atoms .entry)) (now (buf .entry)) (now (answers .entry)) r (now (buf .exit)) (now (answers .exit)) ⌝ }
 {
     sise_serializer::write_calls(words, atoms, line_break, indentation, buf, answers)
+}
+
+// The same from any record on; from an unsound one no call runs.
+pub fn write_calls_from(
+    from: Serializer,
+    words: &[u64],
+    atoms: &[u8],
+    line_break: &[u8],
+    indentation: &[u8],
+    buf: &mut [u8],
+    answers: &mut [u64],
+) -> Ran
+    ensures { λ r. ⌜ RunsFrom from (style (now («line_break» .entry)) (now (indentation .entry))) (now (words .entry)) (now (atoms .entry)) (now (buf .entry)) (now (answers .entry)) r (now (buf .exit)) (now (answers .exit)) ⌝ }
+{
+    sise_serializer::write_calls_from(from, words, atoms, line_break, indentation, buf, answers)
 }
 
 // An answer's word: the offset, or 2 ^ 32 and the refusal's number.

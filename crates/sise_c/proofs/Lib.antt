@@ -1,3 +1,5 @@
 pub mod Reporting
 pub mod ItemLaws
 pub mod ItemCalls
+pub mod RecordLaws
+pub mod SinglyLaws

@@ -2,10 +2,15 @@
 // memory that is lent to it. The result is 0 or document 01's number of the refusal; `values` are what is answered and 0, or the refusal's place and
 // code point. On a refusal nothing else is written.
 mod items;
+mod reading;
 mod report;
+mod writing;
 
 use items::count_items;
 use items::fill_items;
+pub use reading::sise_finish_reading;
+pub use reading::sise_next_item;
+use report::CallCount;
 use report::Size;
 use report::Values;
 use report::report_found;
@@ -24,10 +29,16 @@ use sise_tree_writer::commit_text;
 use sise_tree_writer::measure_text;
 use sise_tree_writer::write_text;
 use sise_util::check_atom;
+pub use writing::sise_begin_list;
+pub use writing::sise_end_list;
+pub use writing::sise_finish_writing;
+pub use writing::sise_put_atom;
 ghost use mathlib.Core.Path.{_≡_};
+ghost use mathlib.Core.List.{[], _∷_};
+ghost use lib.ListN.{length};
 ghost use Rattle.sise_util.specs.Atom.{isAtom, kindOf, kindNumber};
 ghost use Rattle.sise_serializer.specs.Serializer.{style};
-ghost use Rattle.sise_serializer.specs.Words.{WritesCalls};
+ghost use Rattle.sise_serializer.specs.Words.{callsOf, WritesCalls};
 ghost use Rattle.sise_tree.specs.IndexPath.{indexPath};
 ghost use Rattle.sise_tree.specs.FindPath.{findPath};
 ghost use Rattle.sise_tree.specs.ParseText.{parseText};
@@ -195,7 +206,7 @@ pub extern "C" fn sise_read_items(text: &[u8], words: &mut [u64], values: &mut V
     0
 }
 
-// Runs a list of writer calls, as write_calls of sise_serializer does, and returns how many bytes of the buffer are written.
+// Runs a list of writer calls, as write_calls of sise_serializer does, and returns how many bytes of the buffer are written. `ran` is how many calls ran.
 #[no_mangle]
 pub extern "C" fn sise_write_calls(
     words: &[u64],
@@ -204,9 +215,12 @@ pub extern "C" fn sise_write_calls(
     indentation: &[u8],
     buf: &mut [u8],
     answers: &mut [u64],
+    ran: &mut CallCount,
 ) -> u64
-    ensures { λ r. ⌜ WritesCalls (style (now («line_break» .entry)) (now (indentation .entry))) (now (words .entry)) (now (atoms .entry)) (now (buf .entry)) (now (answers .entry)) r (now (buf .exit)) (now (answers .exit)) ⌝ }
+    ensures writes { λ r. ⌜ WritesCalls (style (now («line_break» .entry)) (now (indentation .entry))) (now (words .entry)) (now (atoms .entry)) (now (buf .entry)) (now (answers .entry)) r (now (buf .exit)) (now (answers .exit)) ⌝ }
+    ensures ran { λ r. ⌜ now (ran .exit) ≡ length (callsOf (now (words .entry)) (now (atoms .entry)) (length (now (answers .entry)))) ∷ [] ⌝ }
 {
-    let ran = write_calls(words, atoms, line_break, indentation, buf, answers);
-    ran.serializer.position as u64
+    let all = write_calls(words, atoms, line_break, indentation, buf, answers);
+    *ran = [all.calls as u64];
+    all.serializer.position as u64
 }

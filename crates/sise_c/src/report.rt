@@ -19,6 +19,9 @@ pub type Values = [u64; 2];
 // The size of a tree: its bytes, line breaks and indentations.
 pub type Size = [u64; 3];
 
+// How many calls of a list ran.
+pub type CallCount = [u64; 1];
+
 pub(crate) fn report_indexed(answer: Indexed, values: &mut Values) -> u32
     ensures { λ r. ⌜ Reports (indexedAs answer) r (now (values .exit)) ⌝ }
 {

@@ -4,7 +4,7 @@
 use Prim.Native.Nat.{ℕ, zero, suc, _+_, _-_, _^_, _≤_, _<_}
 use native.Mathlib.Nat.{add-zero, zero-add}
 use native.Mathlib.Omega.{arith}
-use mathlib.Core.Path.{_≡_, refl, sym, ap, _∙_}
+use mathlib.Core.Path.{_≡_, refl, sym, ap, _∙_, subst}
 use mathlib.Core.Bool.{Bool, true, false, _&&_, not, cond}
 use mathlib.Core.Logic.{⊎-elim}
 use mathlib.Core.List.{List, [], _∷_, _++_, map}
@@ -18,14 +18,15 @@ use Rattle.sise_parser.specs.Reader.{partOf}
 use Rattle.sise_util.proofs.Ranges.{split, and-first, and-second}
 use Rattle.sise_serializer.specs.Bytes.{pasted}
 use Rattle.sise_serializer.specs.Serializer.{Style, answerAs, numberOf, freshSerializer, isSound}
+use Rattle.sise_serializer.specs.declared.calls.Ran.{Ran}
 use Rattle.sise_serializer.specs.declared.serializer.Serializer.{Serializer}
 use Rattle.sise_serializer.specs.declared.serializer.Put.{Put}
 use Rattle.sise_serializer.specs.declared.serializer.Put.the-variants.{At, UnsoundRecord, InvalidAtom, NoListToEnd, WritingFinished, WritingNotFinished, NoRoom}
 use Rattle.sise_serializer.proofs.serializer.Put as puts
 use Rattle.sise_serializer.proofs.Bytes.{pasted-none}
 use Rattle.sise_serializer.proofs.Kept.{fresh-sound, sound-kept}
-use Rattle.sise_serializer.specs.Calls.{Call, putAtomCall, beginListCall, endListCall, finishCall, step, run}
-use Rattle.sise_serializer.specs.Words.{callOf, callAt, hasCall, decoded, callsOf, answerWord, Runs}
+use Rattle.sise_serializer.specs.Calls.{Call, putAtomCall, beginListCall, endListCall, finishCall, step, Run, run}
+use Rattle.sise_serializer.specs.Words.{callOf, callAt, hasCall, decoded, callsOf, callsFrom, answerWord, Runs, RunsFrom}
 
 -- ---- the call of a kind
 
@@ -166,30 +167,58 @@ final-none s b w a k =
     ap (λ (x : List ℕ). record { last = w; buffer = b; answers = x; calls = k + 0 }) (pasted-none a k)
     ∙ ap (λ (x : ℕ). record { last = w; buffer = b; answers = a; calls = x }) (add-zero k)
 
--- where a list of calls is after k of them, with the words from `at` on left: the rest leaves what the whole leaves
-pub record Left (s : Style) (words atoms b₀ a₀ b a : List ℕ) (w : Serializer) (k at : ℕ) : Type 0 where
-  pub same : final s b w a k (take (length a₀ - k) (decoded (drop at words) atoms)) ≡ final s b₀ freshSerializer a₀ 0 (callsOf words atoms (length a₀))
+-- where a list of calls from the record v is after k of them, with the words from `at` on left: the rest leaves what the whole leaves
+pub record Left (v : Serializer) (s : Style) (words atoms b₀ a₀ b a : List ℕ) (w : Serializer) (k at : ℕ) : Type 0 where
+  pub same : final s b w a k (take (length a₀ - k) (decoded (drop at words) atoms)) ≡ final s b₀ v a₀ 0 (callsFrom v words atoms (length a₀))
   pub index : k ≤ length a₀
   pub place : at ≤ length words
   pub answers-length : length a ≡ length a₀
   pub buffer-length : length b ≡ length b₀
   pub sound : isSound w ≡ true
 
-pub start : (s : Style) (words atoms b a : List ℕ) (w : Serializer) → w ≡ freshSerializer → Left s words atoms b a b a w 0 0
-start s words atoms b a w e =
+pub start : (s : Style) (words atoms b a : List ℕ) (w : Serializer) → isSound w ≡ true → Left w s words atoms b a b a w 0 0
+start s words atoms b a w h =
     let z : length a - 0 ≡ length a = omega arith in
     record {
-      same = ap (λ (n : ℕ). final s b w a 0 (take n (decoded words atoms))) z ∙ ap (λ (x : Serializer). final s b x a 0 (callsOf words atoms (length a))) e;
+      same = ap (λ (n : ℕ). final s b w a 0 (take n (decoded words atoms))) z ∙ ap (λ (t : Bool). final s b w a 0 (cond t (callsOf words atoms (length a)) [])) (sym h);
       index = omega arith;
       place = omega arith;
       answers-length = refl;
       buffer-length = refl;
-      sound = ap isSound e ∙ fresh-sound;
+      sound = h;
     }
 
-module _ {s : Style} {words atoms b₀ a₀ b a : List ℕ} {w : Serializer} {k at : ℕ} (l : Left s words atoms b₀ a₀ b a w k at) where
+pub start-fresh : (s : Style) (words atoms b a : List ℕ) (w : Serializer) → w ≡ freshSerializer → Left freshSerializer s words atoms b a b a w 0 0
+start-fresh s words atoms b a w e = subst (λ (v : Serializer). Left freshSerializer s words atoms b a b a v 0 0) (sym e) (start s words atoms b a freshSerializer fresh-sound)
+
+-- from an unsound record nothing runs
+pub none-runs : (s : Style) (words atoms b a : List ℕ) (w : Serializer) → isSound w ≡ false → RunsFrom w s words atoms b a (record { serializer = w; calls = 0 }) b a
+unfolding final
+none-runs s words atoms b a w h =
+    let e : record { last = w; buffer = b; answers = a; calls = 0 } ≡ final s b w a 0 (callsFrom w words atoms (length a))
+    = sym (final-none s b w a 0) ∙ ap (λ (t : Bool). final s b w a 0 (cond t (callsOf words atoms (length a)) [])) (sym h) in
+    record {
+      serializer = ap (λ (f : Final). f .last) e;
+      calls = ap (λ (f : Final). f .calls) e ∙ zero-add _;
+      buffer = ap (λ (f : Final). f .buffer) e;
+      answers = ap (λ (f : Final). f .answers) e;
+    }
+
+-- what runs from a fresh record is all that the words mean
+pub fresh-runs : {s : Style} {words atoms b a : List ℕ} {v : Serializer} {r : Ran} {bytes now : List ℕ} → v ≡ freshSerializer → RunsFrom v s words atoms b a r bytes now → Runs s words atoms b a r bytes now
+fresh-runs {s} {words} {atoms} {b} {a} {v} e d =
+    let z : callsFrom v words atoms (length a) ≡ callsOf words atoms (length a) = ap (λ (t : Bool). cond t (callsOf words atoms (length a)) []) (ap isSound e ∙ fresh-sound) in
+    let y : run s b v (callsFrom v words atoms (length a)) ≡ run s b freshSerializer (callsOf words atoms (length a)) = ap (run s b v) z ∙ ap (λ (x : Serializer). run s b x (callsOf words atoms (length a))) e in
+    record {
+      serializer = d .serializer ∙ ap (λ (x : Run). x .last) y;
+      calls = d .calls ∙ ap length z;
+      buffer = d .buffer ∙ ap (λ (x : Run). x .buffer) y;
+      answers = d .answers ∙ ap (λ (x : Run). pasted a 0 (map answerWord (x .answers))) y;
+    }
+
+module _ {v : Serializer} {s : Style} {words atoms b₀ a₀ b a : List ℕ} {w : Serializer} {k at : ℕ} (l : Left v s words atoms b₀ a₀ b a w k at) where
   -- nothing is left
-  finished : take (length a₀ - k) (decoded (drop at words) atoms) ≡ [] → Runs s words atoms b₀ a₀ (record { serializer = w; calls = k }) b a
+  finished : take (length a₀ - k) (decoded (drop at words) atoms) ≡ [] → RunsFrom v s words atoms b₀ a₀ (record { serializer = w; calls = k }) b a
   unfolding final
   finished none =
       let e = sym (final-none s b w a k) ∙ sym (ap (final s b w a k) none) ∙ l .same in
@@ -200,21 +229,21 @@ module _ {s : Style} {words atoms b₀ a₀ b a : List ℕ} {w : Serializer} {k 
         answers = ap (λ (f : Final). f .answers) e;
       }
 
-  pub full : length a ≤ k → Runs s words atoms b₀ a₀ (record { serializer = w; calls = k }) b a
+  pub full : length a ≤ k → RunsFrom v s words atoms b₀ a₀ (record { serializer = w; calls = k }) b a
   full h =
       let e = l .answers-length in
       let z : length a₀ - k ≡ 0 = omega arith in
       finished (ap (λ (n : ℕ). take n (decoded (drop at words) atoms)) z)
 
-  pub stopped : hasCall words at ≡ false → Runs s words atoms b₀ a₀ (record { serializer = w; calls = k }) b a
+  pub stopped : hasCall words at ≡ false → RunsFrom v s words atoms b₀ a₀ (record { serializer = w; calls = k }) b a
   stopped h = finished (ap (take (length a₀ - k)) (rest-none words atoms at (l .place) h) ∙ take-nil (length a₀ - k))
 
   -- one call more
-  pub on : {v : Serializer} {bx : List ℕ} {x : ℕ} → k < length a → hasCall words at ≡ true
-      → v ≡ step s (length b) w (callAt words atoms at) .serializer → x ≡ answerWord (step s (length b) w (callAt words atoms at) .answer)
+  pub on : {u : Serializer} {bx : List ℕ} {x : ℕ} → k < length a → hasCall words at ≡ true
+      → u ≡ step s (length b) w (callAt words atoms at) .serializer → x ≡ answerWord (step s (length b) w (callAt words atoms at) .answer)
       → bx ≡ pasted b (w .position) (step s (length b) w (callAt words atoms at) .bytes) → length bx ≡ length b
-      → Left s words atoms b₀ a₀ bx (set a k x) v (k + 1) (at + 4)
-  on {v} {bx} {x} h has left told wrote keeps =
+      → Left v s words atoms b₀ a₀ bx (set a k x) u (k + 1) (at + 4)
+  on {u} {bx} {x} h has left told wrote keeps =
       let e = l .answers-length in
       let c = callAt words atoms at in
       let d = step s (length b) w c in
@@ -223,7 +252,7 @@ module _ {s : Style} {words atoms b₀ a₀ b a : List ℕ} {w : Serializer} {k 
       let split : take (length a₀ - k) (decoded (drop at words) atoms) ≡ c ∷ cs = ap (take (length a₀ - k)) (rest-call words atoms at (l .place) has) ∙ ap (λ (n : ℕ). take n (c ∷ decoded (drop (at + 4) words) atoms)) z in
       record {
         same =
-            ap (λ (y : List ℕ). final s y v (set a k x) (k + 1) cs) wrote
+            ap (λ (y : List ℕ). final s y u (set a k x) (k + 1) cs) wrote
             ∙ ap (λ (y : Serializer). final s (pasted b (w .position) (d .bytes)) y (set a k x) (k + 1) cs) left
             ∙ ap (λ (y : ℕ). final s (pasted b (w .position) (d .bytes)) (d .serializer) (set a k y) (k + 1) cs) told
             ∙ sym (final-more s b w a k c cs h)

@@ -8,9 +8,10 @@ use lib.Dec.{eqb, leb}
 use lib.ListN.{length, getD, take}
 use Rattle.sise_parser.specs.Reader.{partOf}
 use Rattle.sise_serializer.specs.Bytes.{pasted}
-use Rattle.sise_serializer.specs.Serializer.{Style, Answer, accepted, refused}
+use Rattle.sise_serializer.specs.Serializer.{Style, Answer, accepted, refused, isSound}
 use Rattle.sise_serializer.specs.declared.calls.Ran.{Ran}
-use Rattle.sise_serializer.specs.Calls.{Call, putAtomCall, beginListCall, endListCall, finishCall, writing}
+use Rattle.sise_serializer.specs.declared.serializer.Serializer.{Serializer}
+use Rattle.sise_serializer.specs.Calls.{Call, putAtomCall, beginListCall, endListCall, finishCall, run, writing}
 
 -- the call that four words mean, by its kind: 0 puts the atom that is that part of `atoms`, at the threshold t (a part outside is empty, and so refused
 -- with 17); 1 begins a list at the threshold t; 2 ends a list; 3 finishes without, 4 with a final break
@@ -42,6 +43,10 @@ decoded [] atoms = []
 abbrev pub callsOf : List ℕ → List ℕ → ℕ → List Call
 callsOf words atoms room = take room (decoded words atoms)
 
+-- those that run from the record w: none if it is unsound
+abbrev pub callsFrom : Serializer → List ℕ → List ℕ → ℕ → List Call
+callsFrom w words atoms room = cond (isSound w) (callsOf words atoms room) []
+
 -- an answer's word: the offset, which is at most 16,777,216, or 2 ^ 32 and the refusal's number
 abbrev pub answerWord : Answer → ℕ
 answerWord (accepted o) = o
@@ -55,7 +60,14 @@ pub record Runs (s : Style) (words atoms b before : List ℕ) (r : Ran) (bytes n
   pub buffer : bytes ≡ writing s b (callsOf words atoms (length before)) .buffer
   pub answers : now ≡ pasted before 0 (map answerWord (writing s b (callsOf words atoms (length before)) .answers))
 
--- the same of a call that hands back of the record only its position n, which is how many bytes of the buffer are written
+-- the same from any record w
+pub record RunsFrom (w : Serializer) (s : Style) (words atoms b before : List ℕ) (r : Ran) (bytes now : List ℕ) : Type 0 where
+  pub serializer : r .serializer ≡ run s b w (callsFrom w words atoms (length before)) .last
+  pub calls : r .calls ≡ length (callsFrom w words atoms (length before))
+  pub buffer : bytes ≡ run s b w (callsFrom w words atoms (length before)) .buffer
+  pub answers : now ≡ pasted before 0 (map answerWord (run s b w (callsFrom w words atoms (length before)) .answers))
+
+-- the first of a call that hands back of the record only its position n, which is how many bytes of the buffer are written
 pub record WritesCalls (s : Style) (words atoms b before : List ℕ) (n : ℕ) (bytes now : List ℕ) : Type 0 where
   pub size : n ≡ writing s b (callsOf words atoms (length before)) .last .position
   pub buffer : bytes ≡ writing s b (callsOf words atoms (length before)) .buffer

@@ -13,7 +13,7 @@ ghost use Prim.Native.Nat.{_+_, _≤_};
 ghost use lib.ListN.{length};
 ghost use Rattle.sise_serializer.specs.Serializer.{style, answerAs, isSound};
 ghost use Rattle.sise_serializer.specs.Calls.{Does};
-ghost use Rattle.sise_serializer.specs.Words.{callAt, hasCall, answerWord, Runs};
+ghost use Rattle.sise_serializer.specs.Words.{callAt, hasCall, answerWord, Runs, RunsFrom};
 
 // The record that the last call left, and how many calls ran.
 pub struct Ran {
@@ -74,8 +74,7 @@ fn run_call(
     finish_text(w, line_break, indentation, buf, kind != 3)
 }
 
-// Runs the calls that the words mean, each with the record that the last one left, and writes the word of each answer at the call's index. Stops at a
-// kind above 4, at a rest of fewer than four words, and where no word is left for an answer.
+// Runs the calls that the words mean from a fresh record on.
 pub fn write_calls(
     words: &[u64],
     atoms: &[u8],
@@ -86,7 +85,30 @@ pub fn write_calls(
 ) -> Ran
     ensures { λ r. ⌜ Runs (style (now («line_break» .entry)) (now (indentation .entry))) (now (words .entry)) (now (atoms .entry)) (now (buf .entry)) (now (answers .entry)) r (now (buf .exit)) (now (answers .exit)) ⌝ }
 {
-    let mut w = Serializer::new();
+    let fresh = Serializer::new();
+    write_calls_from(fresh, words, atoms, line_break, indentation, buf, answers)
+}
+
+// Runs the calls that the words mean, each with the record that the last one left, and writes the word of each answer at the call's index. Stops at a
+// kind above 4, at a rest of fewer than four words, and where no word is left for an answer. From an unsound record none runs.
+pub fn write_calls_from(
+    from: Serializer,
+    words: &[u64],
+    atoms: &[u8],
+    line_break: &[u8],
+    indentation: &[u8],
+    buf: &mut [u8],
+    answers: &mut [u64],
+) -> Ran
+    ensures { λ r. ⌜ RunsFrom from (style (now («line_break» .entry)) (now (indentation .entry))) (now (words .entry)) (now (atoms .entry)) (now (buf .entry)) (now (answers .entry)) r (now (buf .exit)) (now (answers .exit)) ⌝ }
+{
+    if !from.is_sound() {
+        return Ran {
+            serializer: from,
+            calls: 0,
+        };
+    }
+    let mut w = from;
     let mut k = 0;
     let mut at = 0;
     while k < answers.len() && has_call(words, at) {

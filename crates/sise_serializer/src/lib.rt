@@ -12,6 +12,7 @@ pub use calls::Ran;
 pub use calls::has_call;
 pub use calls::put_word;
 pub use calls::write_calls;
+pub use calls::write_calls_from;
 pub use serializer::Phase;
 pub use serializer::Put;
 pub use serializer::Serializer;
