@@ -5,7 +5,7 @@ use sise_c::sise_put_tree;
 ghost use mathlib.Core.Path.{_≡_};
 ghost use Rattle.sise_serializer.specs.Serializer.{style};
 ghost use Rattle.sise_c.specs.Reports.{Reports};
-ghost use Rattle.sise_c.specs.Singly.{nextTreeOf, putTreeOf};
+ghost use Rattle.sise_c.specs.Singly.{nextTreeOf, Tells, putTreeOf};
 
 // What a call answers beside its result: the answer and 0, or the refusal's place and code point.
 pub type Values = [u64; 2];
@@ -42,7 +42,7 @@ pub fn put_tree(
     record: &mut WriterWords,
     values: &mut Values,
 ) -> u32
-    ensures answer { λ r. ⌜ Reports (putTreeOf (style (now («line_break» .entry)) (now (indentation .entry))) (now («record» .entry)) (now (buf .entry)) (now (text .entry)) (now (table .entry)) «break_line_at» .answer) r (now (values .exit)) ⌝ }
+    ensures answer { λ r. ⌜ Tells (putTreeOf (style (now («line_break» .entry)) (now (indentation .entry))) (now («record» .entry)) (now (buf .entry)) (now (text .entry)) (now (table .entry)) «break_line_at») r (now (values .exit)) ⌝ }
     ensures words { λ r. ⌜ now («record» .exit) ≡ putTreeOf (style (now («line_break» .entry)) (now (indentation .entry))) (now («record» .entry)) (now (buf .entry)) (now (text .entry)) (now (table .entry)) «break_line_at» .words ⌝ }
     ensures bytes { λ r. ⌜ now (buf .exit) ≡ putTreeOf (style (now («line_break» .entry)) (now (indentation .entry))) (now («record» .entry)) (now (buf .entry)) (now (text .entry)) (now (table .entry)) «break_line_at» .buffer ⌝ }
 {

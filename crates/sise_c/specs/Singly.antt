@@ -20,6 +20,7 @@ use Rattle.sise_tree.specs.ParseTree.{longest, Parses, parseTree}
 use Rattle.sise_tree_writer.specs.SerializeTree.{Writes, serializeTree}
 use Rattle.sise_c.specs.Items.{itemWords}
 use Rattle.sise_c.specs.Records.{readerOf, readerWords, serializerOf, serializerWords}
+use Rattle.sise_c.specs.Reports.{Reports}
 
 -- ---- next_item
 
@@ -121,6 +122,10 @@ nextTreeOf text ws table = nextTreeBy text ws table (readerOf ws)
 -- "a tree with its first item's" offset; a refusal leaves words and buffer
 abbrev pub treeLeaves : Writes → Leaves
 treeLeaves d = record { answer = d .answer; words = serializerWords (d .serializer); buffer = d .buffer }
+
+-- what a call reports that leaves d
+abbrev pub Tells : Leaves → ℕ → List ℕ → Type 0
+Tells d r now = Reports (d .answer) r now
 
 unfoldable pub putTreeBy : Style → List ℕ → List ℕ → List ℕ → List ℕ → ℕ → Option Serializer → Leaves
 putTreeBy s ws buf text table t none = record { answer = refusedWith (noRecord text); words = ws; buffer = buf }

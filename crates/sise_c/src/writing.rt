@@ -19,7 +19,7 @@ ghost use Rattle.sise_serializer.specs.Serializer.{style};
 ghost use Rattle.sise_c.specs.Kept.{writerAs};
 ghost use Rattle.sise_c.specs.Records.{writerPhaseWord, flagWord, serializerIn, serializerOf, serializerWords};
 ghost use Rattle.sise_c.specs.Reports.{Reports};
-ghost use Rattle.sise_c.specs.Singly.{wordAnswer, callOn, putTreeOf};
+ghost use Rattle.sise_c.specs.Singly.{wordAnswer, callOn, Tells, putTreeOf};
 
 // A writer's record in words.
 pub type WriterWords = [u64; 9];
@@ -246,7 +246,7 @@ pub extern "C" fn sise_put_tree(
     record: &mut WriterWords,
     values: &mut Values,
 ) -> u32
-    ensures answer { λ r. ⌜ Reports (putTreeOf (style (now («line_break» .entry)) (now (indentation .entry))) (now («record» .entry)) (now (buf .entry)) (now (text .entry)) (now (table .entry)) «break_line_at» .answer) r (now (values .exit)) ⌝ }
+    ensures answer { λ r. ⌜ Tells (putTreeOf (style (now («line_break» .entry)) (now (indentation .entry))) (now («record» .entry)) (now (buf .entry)) (now (text .entry)) (now (table .entry)) «break_line_at») r (now (values .exit)) ⌝ }
     ensures words { λ r. ⌜ now («record» .exit) ≡ putTreeOf (style (now («line_break» .entry)) (now (indentation .entry))) (now («record» .entry)) (now (buf .entry)) (now (text .entry)) (now (table .entry)) «break_line_at» .words ⌝ }
     ensures bytes { λ r. ⌜ now (buf .exit) ≡ putTreeOf (style (now («line_break» .entry)) (now (indentation .entry))) (now («record» .entry)) (now (buf .entry)) (now (text .entry)) (now (table .entry)) «break_line_at» .buffer ⌝ }
 {
