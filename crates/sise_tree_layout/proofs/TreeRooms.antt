@@ -14,30 +14,20 @@ use Rattle.sise_serializer.specs.declared.serializer.Serializer.{Serializer}
 use Rattle.sise_serializer.specs.Calls.{Call, run}
 use Rattle.sise_tree.specs.Tree.{Node}
 use Rattle.sise_tree.specs.Answers.{Answer, answered, refusedWith, numberOf}
 use Rattle.sise_tree_writer.specs.SerializeTree.{fits, Writes, refuse, firstOffset, written, writeTree}
-use Rattle.sise_tree_writer.proofs.Measured.{no-answer, left, written-on, written-off, Tested, fails, passes, tested}
+use Rattle.sise_tree_writer.proofs.Measured.{no-answer, same-number, on-answer, left, written-on, written-off, Tested, fails, passes, tested}
 use Rattle.sise_tree_writer.proofs.Placing.{fits-lands}
-use Rattle.sise_tree_writer.proofs.Rooms.{lands-answers, exact-room, alike, larger, text-alike}
+use Rattle.sise_tree_layout.proofs.Rooms.{exact-room, alike, larger, text-alike}
 
 -- what is the same has the same answer
 same-answer : {d d′ : Writes} {a : Answer} → d ≡ d′ → d .answer ≡ a → d′ .answer ≡ a
 same-answer e h = sym (ap (λ (x : Writes). x .answer) e) ∙ h
-
-pub same-number : {n k : ℕ} → refusedWith n ≡ refusedWith k → n ≡ k
-same-number e = ap numberOf e
 
 -- d′, in the buffer b′, is as d, in another: with room for its bytes record and answer are the same, and else it is refused with 22
 pub record SameWithRoom (w : Serializer) (d d′ : Writes) (b′ : List ℕ) : Type 0 where
   pub serializer : d .serializer .position ≤ length b′ → d′ .serializer ≡ d .serializer
   pub answer : d .serializer .position ≤ length b′ → d′ .answer ≡ d .answer
   pub short : length b′ < d .serializer .position → d′ ≡ refuse 22 b′ w
-
-module _ (s : Style) (b : List ℕ) (w : Serializer) where
-  -- calls that fit answer an offset
-  pub on-answer : (c : Call) (cs : List Call) → fits s (length b) w (c ∷ cs) ≡ true → (o : ℕ) × (written s b w (c ∷ cs) .answer ≡ answered o)
-  on-answer c cs f =
-      let k = fits-lands s (length b) w c cs f in
-      (w .position + length (k .piece .layout), ap (λ (x : Writes). x .answer) (written-on s b w (c ∷ cs) f) ∙ ap firstOffset (lands-answers s b w c k cs))
 
 module _ (s : Style) (b b′ : List ℕ) (w : Serializer) where
   more-measured : (c : Call) (cs : List Call) → fits s (length b) w (c ∷ cs) ≡ true → SameWithRoom w (written s b w (c ∷ cs)) (written s b′ w (c ∷ cs)) b′

@@ -16,13 +16,13 @@ use Rattle.sise_serializer.specs.declared.serializer.Serializer.{Serializer}
 use Rattle.sise_serializer.specs.Calls.{Call}
 use Rattle.sise_tree.specs.Tree.{Node}
 use Rattle.sise_tree.specs.Answers.{Answer, answered, refused, refusedWith}
 use Rattle.sise_tree_writer.specs.SerializeTree.{treeCalls, Writes, refuse, writeTree, serializeTree, DoesWrite}
 use Rattle.sise_tree_writer.specs.Writing.{textCalls, writeText, IsWritten}
 use Rattle.sise_tree_writer.specs.Sizes.{Enquiry, adds, refuses, added, enquiryBy, enquiry, same, commit, commitTree, commitText, MeasuresTree, MeasuresText, CommitsTree, CommitsText}
 use Rattle.sise_tree_writer.specs.declared.serialize.TreeWrote.{TreeWrote}
 use Rattle.sise_tree_writer.specs.declared.size.Measured.{Measured}
-use Rattle.sise_tree_writer.proofs.TreeRooms.{tree-measured}
+use Rattle.sise_tree_layout.proofs.TreeRooms.{tree-measured}
 use Rattle.sise_tree_writer.proofs.Sizes.{tree-grown, never-23, commit-refused, sized, commit-same, commit-changed}
 
 -- ---- two answers are compared as they are
 

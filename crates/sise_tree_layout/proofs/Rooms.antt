@@ -16,34 +16,12 @@ use Rattle.sise_serializer.specs.Serializer.{Style, Written, limit, freshSerial
 use Rattle.sise_serializer.specs.declared.serializer.Serializer.{Serializer}
 use Rattle.sise_serializer.specs.Calls.{isAccepted, Call, step, run, writing}
 use Rattle.sise_layout.specs.Texts.{textOf}
-use Rattle.sise_layout.proofs.Buffers.{pasted-length, same-text}
+use Rattle.sise_layout.proofs.Buffers.{same-text}
 use Rattle.sise_layout.proofs.Written.{writes}
 use Rattle.sise_serializer.proofs.Verdicts.{endOf}
 use Rattle.sise_tree_writer.specs.SerializeTree.{fits}
 use Rattle.sise_tree_writer.proofs.CallLaws.{fits-off}
-use Rattle.sise_tree_writer.proofs.Placing.{placed, not-placed, puts-end, puts-place, put-fits, Lands, lands, lands-put, fits-lands}
-
--- ---- the first of the calls, accepted in the buffer b
-
-module _ (s : Style) (b : List ℕ) (w : Serializer) (c : Call) (k : Lands s (length b) w c) where
-  -- the buffer behind it
-  abbrev now : List ℕ
-  now = pasted b (w .position) (k .piece .layout ++ k .piece .token)
-
-  now-long : length now ≡ length b
-  now-long = pasted-length b (w .position) (k .piece .layout ++ k .piece .token) (omega (arith, length-append (k .piece .layout) (k .piece .token), k .fit))
-
-  module _ (cs : List Call) where
-    lands-last : run s b w (c ∷ cs) .last ≡ run s now (k .piece .after) cs .last
-    unfolding run
-    lands-last = ap (λ (r : Written). run s (pasted b (w .position) (r .bytes)) (r .serializer) cs .last) (lands-put k)
-
-    pub lands-answers : run s b w (c ∷ cs) .answers ≡ writer.Answer.accepted (w .position + length (k .piece .layout)) ∷ run s now (k .piece .after) cs .answers
-    unfolding run
-    lands-answers = ap (λ (r : Written). r .answer ∷ run s (pasted b (w .position) (r .bytes)) (r .serializer) cs .answers) (lands-put k)
-
-    lands-fits : fits s (length b) w (c ∷ cs) ≡ fits s (length now) (k .piece .after) cs
-    lands-fits = put-fits s (length b) w c cs (k .piece) (lands-put k) ∙ ap (λ (n : ℕ). fits s n (k .piece .after) cs) (sym now-long)
+use Rattle.sise_tree_writer.proofs.Placing.{placed, not-placed, puts-end, puts-place, put-fits, Lands, lands, fits-lands, now, now-long, lands-last, lands-answers, lands-fits}
 
 -- ---- all of the calls
 

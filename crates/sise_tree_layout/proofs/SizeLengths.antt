@@ -21,15 +21,15 @@ use Rattle.sise_layout.proofs.Buffers.{tied}
 use Rattle.sise_layout.proofs.Lengths.{bytesOf, Counted, counts}
 use Rattle.sise_tree.specs.Tree.{Node, atom, list, Nodes, empty, _then_}
 use Rattle.sise_tree.specs.Decision.{decide}
 use Rattle.sise_tree_writer.specs.SerializeTree.{nodeCalls, rowCalls, treeCalls, fits, Writes, refuse, writeTree, serializeTree}
 use Rattle.sise_tree_writer.specs.Writing.{textCalls, writeText, IsWritten}
 use Rattle.sise_tree_writer.specs.Walking.{after}
 use Rattle.sise_tree_writer.specs.Sizes.{adds, enquiry, commitText}
 use Rattle.sise_tree_writer.proofs.CallLaws.{fits-first, run-after, lists-after, accepted-lists}
 use Rattle.sise_tree_writer.proofs.Placing.{puts-end, lands-put, fits-lands}
 use Rattle.sise_tree_writer.proofs.Measured.{Accepted, tree-accepted}
 use Rattle.sise_tree_writer.proofs.Sizes.{run-grown}
-use Rattle.sise_tree_writer.proofs.SizeLaws.{other-size, written-of, size-between}
+use Rattle.sise_tree_layout.proofs.SizeLaws.{other-size, written-of, size-between}
 
 -- ---- the open lists
 
