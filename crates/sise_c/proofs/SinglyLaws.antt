@@ -42,8 +42,7 @@ use Rattle.sise_tree.specs.declared.parse.TreeRead.{TreeRead}
 use Rattle.sise_tree_writer.specs.Answers.{putAs}
 use Rattle.sise_tree_writer.specs.SerializeTree.{nodeCalls, treeCalls, fits, Writes, refuse, written, writeTree, serializeTree, DoesWrite}
 use Rattle.sise_tree_writer.specs.declared.serialize.TreeWrote.{TreeWrote}
-use Rattle.sise_tree_writer.proofs.Measured.{Tested, fails, passes, tested, written-off}
-use Rattle.sise_tree_writer.proofs.TreeRooms.{on-answer}
+use Rattle.sise_tree_writer.proofs.Measured.{Tested, fails, passes, tested, written-off, on-answer}
 use Rattle.sise_c.specs.Kept.{readerAs, writerAs}
 use Rattle.sise_c.specs.Records.{readerOf, readerWords, serializerOf, serializerWords}
 use Rattle.sise_c.specs.Reports.{Reports}

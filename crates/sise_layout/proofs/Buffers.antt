@@ -10,7 +10,7 @@ use lib.Seq.{take-at, length-take-le}
 use Rattle.sise_serializer.specs.Bytes.{pasted}
 use Rattle.sise_serializer.specs.Serializer.{Style, Piece, Written, Answer, firstAtom, firstList, inner, innerAs, close, closeAs, last, freshSerializer}
 use Rattle.sise_serializer.specs.declared.serializer.Serializer.{Serializer}
-use Rattle.sise_serializer.proofs.Bytes.{pasted-none}
+use Rattle.sise_serializer.proofs.Bytes.{pasted-none, head-length, pasted-length}
 use Rattle.sise_serializer.proofs.Verdicts.{endOf, Puts, atomAlone, atomInside, listFirst, listInside, listClosed, textEnded, Verdict, refuses, puts, verdict}
 use Rattle.sise_serializer.specs.Calls.{Call, Placed, Run, run, writing, itemOf, step}
 use Rattle.sise_layout.specs.Texts.{textOf}
@@ -18,20 +18,9 @@ use Rattle.sise_layout.specs.Rules.{Writes, writes}
 
 -- bytes that fit
 module _ (l : List ℕ) (at : ℕ) (b : List ℕ) (h : at + length b ≤ length l) where
-  head-length : length (take at l ++ b) ≡ at + length b
-  head-length = length-append (take at l) b ∙ ap (λ (n : ℕ). n + length b) (length-take-le at l (omega arith))
-
-  pub pasted-length : length (pasted l at b) ≡ length l
-  unfolding pasted
-  pasted-length =
-      length-append (take at l ++ b) (drop (at + length b) l)
-      ∙ ap (λ (n : ℕ). n + length (drop (at + length b) l)) head-length
-      ∙ ap (λ (n : ℕ). at + length b + n) (length-drop (at + length b) l)
-      ∙ omega arith
-
   pasted-head : take (at + length b) (pasted l at b) ≡ take at l ++ b
   unfolding pasted
-  pasted-head = take-at (take at l ++ b) (drop (at + length b) l) (at + length b) head-length
+  pasted-head = take-at (take at l ++ b) (drop (at + length b) l) (at + length b) (head-length l at b h)
 
 -- the position after a piece is where it ends
 after-end : {s : Style} {w : Serializer} {c : Call} {p : Piece} → Puts s w c p → p .after .position ≡ endOf w p

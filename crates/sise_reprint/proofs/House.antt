@@ -28,10 +28,10 @@ use Rattle.sise_tree_writer.specs.Writing.{textCalls}
 use Rattle.sise_tree_writer.specs.House.{houseStyle, houseAt}
 use Rattle.sise_tree_writer.specs.Alike.{Tree, leaf, branch, treeOf, ReadsAs}
 use Rattle.sise_tree_writer.proofs.CallLaws.{fits-first, accepted-keeps, run-after, after-sound}
-use Rattle.sise_tree_writer.proofs.Measured.{no-answer, left, written-on, written-off}
-use Rattle.sise_tree_writer.proofs.ReadAgain.{read-again}
-use Rattle.sise_tree_writer.proofs.Rooms.{exact-room, text-alike}
-use Rattle.sise_tree_writer.proofs.TreeRooms.{written-measured, on-answer}
+use Rattle.sise_tree_writer.proofs.Measured.{no-answer, on-answer, left, written-on, written-off}
+use Rattle.sise_tree_layout.proofs.ReadAgain.{read-again}
+use Rattle.sise_tree_layout.proofs.Rooms.{exact-room, text-alike}
+use Rattle.sise_tree_layout.proofs.TreeRooms.{written-measured}
 use Rattle.sise_reprint.proofs.Trees.{callsOf, wholeCalls, whole-calls}
 use Rattle.sise_reprint.proofs.Parsed.{Parsed, read-atoms}
 

@@ -1,4 +1,4 @@
--- Bytes pasted one after another are pasted at once; and how long repeated bytes are.
+-- Bytes pasted one after another are pasted at once, and leave the length; and how long repeated bytes are.
 -- Assumes nothing.
 use Prim.Native.Nat.{ℕ, zero, suc, _+_, _*_, _≤_, _<_}
 use native.Mathlib.Nat.{zero-mul, suc-mul, suc-add, zero-add, add-assoc}
@@ -6,7 +6,7 @@ use native.Mathlib.Numerals.{add-one}
 use native.Mathlib.Omega.{arith}
 use mathlib.Core.Path.{_≡_, sym, ap, _∙_}
 use mathlib.Core.List.{List, [], _∷_, _++_, append-assoc, append-nil}
-use lib.ListN.{length, getD, set, take, drop, length-append, length-take}
+use lib.ListN.{length, getD, set, take, drop, length-append, length-take, length-drop}
 use lib.Seq.{paste, paste-zero, take-length, take-at, drop-at, drop-drop, set-split}
 use borrow.Author.Tests.{le-leb, lt-leb}
 use Rattle.sise_serializer.specs.Bytes.{pasted, pastedIf, repeat}
@@ -29,8 +29,16 @@ unfolding pasted
 pasted-paste l at b = rw (take-length b)
 
 module _ (l : List ℕ) (at : ℕ) (a : List ℕ) (room : at + length a ≤ length l) where
-  head-length : length (take at l ++ a) ≡ at + length a
+  pub head-length : length (take at l ++ a) ≡ at + length a
   head-length = simp (length-append, length-take) (omega arith)
+
+  pub pasted-length : length (pasted l at a) ≡ length l
+  unfolding pasted
+  pasted-length =
+      length-append (take at l ++ a) (drop (at + length a) l)
+      ∙ ap (λ (n : ℕ). n + length (drop (at + length a) l)) head-length
+      ∙ ap (λ (n : ℕ). at + length a + n) (length-drop (at + length a) l)
+      ∙ omega arith
 
   -- b right behind a
   pub pasted-more : (b : List ℕ) → pasted (pasted l at a) (at + length a) b ≡ pasted l at (a ++ b)

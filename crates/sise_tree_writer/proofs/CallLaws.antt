@@ -22,7 +22,7 @@ use Rattle.sise_serializer.specs.Calls.{Call, putAtomCall, beginListCall, endLi
 use Rattle.sise_serializer.proofs.Sound.{sound, writing-lists}
 use Rattle.sise_serializer.proofs.Kept.{sound-kept}
 use Rattle.sise_serializer.proofs.Verdicts.{Puts, atomAlone, atomInside, listFirst, listInside, listClosed, textEnded, Verdict, refuses, puts, verdict}
-use Rattle.sise_layout.proofs.Buffers.{pasted-length}
+use Rattle.sise_serializer.proofs.Bytes.{pasted-length}
 use Rattle.sise_tree_writer.specs.SerializeTree.{fits}
 use Rattle.sise_tree_writer.specs.Walking.{after}
 use Rattle.sise_tree_writer.proofs.Made.{no-offset}

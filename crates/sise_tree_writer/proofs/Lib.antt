@@ -9,13 +9,8 @@ pub mod Measured
 pub mod Finishing
 pub mod Accepting
 pub mod Placing
-pub mod Rooms
-pub mod TreeRooms
 pub mod Sizes
-pub mod SizeLaws
-pub mod SizeLengths
 pub mod OnlyRoom
-pub mod ReadAgain
 pub mod HouseLaws
 pub mod Lossless
 pub mod TextLimit

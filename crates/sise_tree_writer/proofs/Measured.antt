@@ -1,6 +1,6 @@
 -- From the answers of a walk, and of the checks before it, to what the tree calls promise.
 -- Assumes nothing.
-use Prim.Native.Nat.{ℕ, _≤_, _<_}
+use Prim.Native.Nat.{ℕ, _+_, _≤_, _<_}
 use native.Mathlib.Omega.{arith}
 use mathlib.Core.Path.{_≡_, refl, sym, ap, _∙_}
 use mathlib.Core.Bool.{true, false, false≢true}
@@ -20,7 +20,7 @@ use Rattle.sise_serializer.proofs.Running.{no-zero}
 use Rattle.sise_tree.specs.Tree.{Node, atomsHold}
 use Rattle.sise_tree.specs.Decision.{decide, isSome}
 use Rattle.sise_tree.specs.ParseTree.{longest}
-use Rattle.sise_tree.specs.Answers.{answered, refusedWith}
+use Rattle.sise_tree.specs.Answers.{answered, refusedWith, numberOf}
 use Rattle.sise_tree.proofs.LocalLaws as local
 use Rattle.sise_tree.specs.Held.{heldAs}
 use Rattle.sise_tree.specs.declared.tree.Held.{Held}
@@ -37,10 +37,14 @@ use Rattle.sise_tree_writer.specs.declared.serialize.PutTree.the-variant
 use Rattle.sise_tree_writer.specs.declared.serialize.TreeWrote.{TreeWrote}
 use Rattle.sise_tree_writer.proofs.serialize.PutTree as puts
 use Rattle.sise_tree_writer.proofs.CallLaws.{fits-first, run-after}
+use Rattle.sise_tree_writer.proofs.Placing.{fits-lands, lands-answers}
 
 -- a refusal is no answer
 pub no-answer : {A : Type 0} {n o : ℕ} → refusedWith n ≡ answered o → A
 no-answer {n = n} {o} e = let z : _≡_ {A = ℕ} 0 1 = cc in absurd (omega arith)
+
+pub same-number : {n k : ℕ} → refusedWith n ≡ refusedWith k → n ≡ k
+same-number e = ap numberOf e
 
 -- an answer that is no offset
 pub not-at : (p : PutTree) → OneOf (1 ∷ 2 ∷ 3 ∷ 4 ∷ 5 ∷ 6 ∷ 7 ∷ []) (tagOf puts.the-type p) → (o : ℕ) → putAs p ≡ answered o → ⊥
@@ -241,3 +245,10 @@ module _ (s : Style) (b : List ℕ) (w : Serializer) where
 pub accepted-checked : {s : Style} {b : List ℕ} {w : Serializer} {text words : List ℕ} {calls : Node → List Call} → Accepted s b w text words calls → Checked text words
 unfolding isSome
 accepted-checked k = record { holds = ap isSome (k .decided); atoms = λ m e. rw (Option·some-injective _ _ (sym e ∙ k .decided)) (k .atoms) }
+
+module _ (s : Style) (b : List ℕ) (w : Serializer) where
+  -- calls that fit answer an offset
+  pub on-answer : (c : Call) (cs : List Call) → fits s (length b) w (c ∷ cs) ≡ true → (o : ℕ) × (written s b w (c ∷ cs) .answer ≡ answered o)
+  on-answer c cs f =
+      let k = fits-lands s (length b) w c cs f in
+      (w .position + length (k .piece .layout), ap (λ (x : Writes). x .answer) (written-on s b w (c ∷ cs) f) ∙ ap firstOffset (lands-answers s b w c k cs))

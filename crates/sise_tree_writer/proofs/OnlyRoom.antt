@@ -28,9 +28,8 @@ use Rattle.sise_tree_writer.specs.SerializeTree.{nodeCalls, rowCalls, tr
 use Rattle.sise_tree_writer.specs.Writing.{textCalls}
 use Rattle.sise_tree_writer.proofs.CallLaws.{checked-atom, fits-off}
 use Rattle.sise_tree_writer.proofs.Placing.{puts-sound, placed, not-placed, puts-place, put-fits}
-use Rattle.sise_tree_writer.proofs.Measured.{no-answer, Tested, fails, passes, tested}
+use Rattle.sise_tree_writer.proofs.Measured.{no-answer, Tested, fails, passes, tested, same-number, on-answer}
 use Rattle.sise_tree_writer.proofs.Finishing.{tree-begun}
-use Rattle.sise_tree_writer.proofs.TreeRooms.{same-number, on-answer}
 
 -- a refusal's number, or what follows an accepted call
 abbrev pub refusalOr : writer.Answer → Option ℕ → Option ℕ

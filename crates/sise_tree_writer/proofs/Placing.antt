@@ -1,10 +1,11 @@
 -- A call that may be made puts one piece, in whatever room: it is accepted where the piece's end lies in the room, and else refused with 22.
 -- Assumes nothing.
-use Prim.Native.Nat.{ℕ, _≤_, _<_, min}
+use Prim.Native.Nat.{ℕ, _+_, _≤_, _<_, min}
 use native.Mathlib.Omega.{arith}
 use mathlib.Core.Path.{_≡_, sym, ap, _∙_}
 use mathlib.Core.Bool.{true, _&&_, false≢true}
-use mathlib.Core.List.{List, _∷_}
+use mathlib.Core.List.{List, _∷_, _++_}
+use lib.ListN.{length, length-append}
 use borrow.Author.Tests.{le-leb, lt-leb}
 use Rattle.sise_util.proofs.Ranges.{split, and-first}
 use Rattle.sise_serializer.specs.Serializer as writer
@@ -13,7 +14,9 @@ use Rattle.sise_serializer.specs.declared.serializer.Phase.{Phase}
 use Rattle.sise_serializer.specs.declared.serializer.Serializer.{Serializer}
 use Rattle.sise_serializer.proofs.Does.{unsound-call}
 use Rattle.sise_serializer.proofs.Kept.{sound-kept}
-use Rattle.sise_serializer.specs.Calls.{isAccepted, Call, step}
+use Rattle.sise_serializer.specs.Bytes.{pasted}
+use Rattle.sise_serializer.specs.Calls.{isAccepted, Call, step, run}
+use Rattle.sise_serializer.proofs.Bytes.{pasted-length}
 use Rattle.sise_serializer.proofs.Verdicts.{endOf, put, Puts, atomAlone, atomInside, listFirst, listInside, listClosed, textEnded, Verdict, refuses, puts, verdict}
 use Rattle.sise_tree_writer.specs.SerializeTree.{fits}
 
@@ -84,3 +87,25 @@ lands-put {s} {room} {w} {c} k = puts-place s room w (k .sound) (k .puts) ∙ pl
 pub fits-lands : (s : Style) (room : ℕ) (w : Serializer) (c : Call) (cs : List Call) → fits s room w (c ∷ cs) ≡ true → Lands s room w c
 unfolding fits
 fits-lands s room w c cs h = lands s room w c (and-first (isAccepted (step s room w c .answer)) _ h)
+
+-- the first of calls over a buffer b, accepted there
+
+module _ (s : Style) (b : List ℕ) (w : Serializer) (c : Call) (k : Lands s (length b) w c) where
+  -- the buffer behind it
+  abbrev pub now : List ℕ
+  now = pasted b (w .position) (k .piece .layout ++ k .piece .token)
+
+  pub now-long : length now ≡ length b
+  now-long = pasted-length b (w .position) (k .piece .layout ++ k .piece .token) (omega (arith, length-append (k .piece .layout) (k .piece .token), k .fit))
+
+  module _ (cs : List Call) where
+    pub lands-last : run s b w (c ∷ cs) .last ≡ run s now (k .piece .after) cs .last
+    unfolding run
+    lands-last = ap (λ (r : Written). run s (pasted b (w .position) (r .bytes)) (r .serializer) cs .last) (lands-put k)
+
+    pub lands-answers : run s b w (c ∷ cs) .answers ≡ writer.Answer.accepted (w .position + length (k .piece .layout)) ∷ run s now (k .piece .after) cs .answers
+    unfolding run
+    lands-answers = ap (λ (r : Written). r .answer ∷ run s (pasted b (w .position) (r .bytes)) (r .serializer) cs .answers) (lands-put k)
+
+    pub lands-fits : fits s (length b) w (c ∷ cs) ≡ fits s (length now) (k .piece .after) cs
+    lands-fits = put-fits s (length b) w c cs (k .piece) (lands-put k) ∙ ap (λ (n : ℕ). fits s n (k .piece .after) cs) (sym now-long)

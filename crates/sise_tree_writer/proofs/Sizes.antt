@@ -27,8 +27,7 @@ use Rattle.sise_tree_writer.specs.declared.serialize.TreeWrote.{TreeWrot
 use Rattle.sise_tree_writer.specs.declared.size.Measured.{Measured}
 use Rattle.sise_tree_writer.specs.declared.size.Measured.the-variants.{Size, TextTooLong, UnsoundRecord, NotATree, InvalidAtom, WritingFinished, NoRoom}
 use Rattle.sise_tree_writer.proofs.size.Measured as sizes
-use Rattle.sise_tree_writer.proofs.Measured.{no-answer, written-on, written-off, Tested, fails, passes, tested}
-use Rattle.sise_tree_writer.proofs.TreeRooms.{same-number, on-answer}
+use Rattle.sise_tree_writer.proofs.Measured.{no-answer, written-on, written-off, Tested, fails, passes, tested, same-number, on-answer}
 
 -- ---- the counts go up
 
