@@ -13,7 +13,6 @@ mod deep;
 mod exported;
 mod forms;
 mod guard;
-mod inside;
 mod items;
 mod kinds;
 mod limits;

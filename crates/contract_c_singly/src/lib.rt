@@ -5,14 +5,12 @@ use sise_c::sise_end_list;
 use sise_c::sise_finish_reading;
 use sise_c::sise_finish_writing;
 use sise_c::sise_next_item;
-use sise_c::sise_next_tree;
 use sise_c::sise_put_atom;
-use sise_c::sise_put_tree;
 ghost use mathlib.Core.Path.{_≡_};
 ghost use Rattle.sise_serializer.specs.Calls.{putAtomCall, beginListCall, endListCall, finishCall};
 ghost use Rattle.sise_serializer.specs.Serializer.{style};
 ghost use Rattle.sise_c.specs.Reports.{Reports};
-ghost use Rattle.sise_c.specs.Singly.{ReportsNext, nextOf, nextTreeOf, finishOf, callOn, Tells, putTreeOf};
+ghost use Rattle.sise_c.specs.Singly.{ReportsNext, nextOf, finishOf, callOn};
 
 // What a call answers beside its result: the answer and 0, or the refusal's place and code point.
 pub type Values = [u64; 2];
@@ -32,21 +30,6 @@ pub fn next_item(text: &[u8], record: &mut ReaderWords, item: &mut ItemWords) ->
     ensures words { λ r. ⌜ now («record» .exit) ≡ nextOf (now (text .entry)) (now («record» .entry)) .words ⌝ }
 {
     sise_next_item(text, record, item)
-}
-
-// Reads the node due into the table's first words. The first value is how many nodes it has; of a refusal the values are place and code point. The record's words
-// are for the next call.
-pub fn next_tree(
-    text: &[u8],
-    record: &mut ReaderWords,
-    table: &mut [u32],
-    values: &mut Values,
-) -> u32
-    ensures answer { λ r. ⌜ Reports (nextTreeOf (now (text .entry)) (now («record» .entry)) (now (table .entry)) .answer) r (now (values .exit)) ⌝ }
-    ensures words { λ r. ⌜ now («record» .exit) ≡ nextTreeOf (now (text .entry)) (now («record» .entry)) (now (table .entry)) .words ⌝ }
-    ensures nodes { λ r. ⌜ now (table .exit) ≡ nextTreeOf (now (text .entry)) (now («record» .entry)) (now (table .entry)) .table ⌝ }
-{
-    sise_next_tree(text, record, table, values)
 }
 
 // Whether the text ends after the last item. The record's words are of no use after it.
@@ -110,33 +93,6 @@ pub fn end_list(
     ensures bytes { λ r. ⌜ now (buf .exit) ≡ callOn endListCall (style (now («line_break» .entry)) (now (indentation .entry))) (now («record» .entry)) (now (buf .entry)) .buffer ⌝ }
 {
     sise_end_list(line_break, indentation, buf, record, values)
-}
-
-// Writes the tree that the table holds over `text` behind what the record has written. The first value is the offset of its first item.
-pub fn put_tree(
-    line_break: &[u8],
-    indentation: &[u8],
-    buf: &mut [u8],
-    text: &[u8],
-    table: &[u32],
-    break_line_at: u64,
-    record: &mut WriterWords,
-    values: &mut Values,
-) -> u32
-    ensures answer { λ r. ⌜ Tells (putTreeOf (style (now («line_break» .entry)) (now (indentation .entry))) (now («record» .entry)) (now (buf .entry)) (now (text .entry)) (now (table .entry)) «break_line_at») r (now (values .exit)) ⌝ }
-    ensures words { λ r. ⌜ now («record» .exit) ≡ putTreeOf (style (now («line_break» .entry)) (now (indentation .entry))) (now («record» .entry)) (now (buf .entry)) (now (text .entry)) (now (table .entry)) «break_line_at» .words ⌝ }
-    ensures bytes { λ r. ⌜ now (buf .exit) ≡ putTreeOf (style (now («line_break» .entry)) (now (indentation .entry))) (now («record» .entry)) (now (buf .entry)) (now (text .entry)) (now (table .entry)) «break_line_at» .buffer ⌝ }
-{
-    sise_put_tree(
-        line_break,
-        indentation,
-        buf,
-        text,
-        table,
-        break_line_at,
-        record,
-        values,
-    )
 }
 
 // Ends the text, with a line break if wished. The first value is the text's end.

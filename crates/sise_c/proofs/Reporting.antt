@@ -74,16 +74,6 @@ put-refusal n put.WritingFinished k = record { result = refl; values = refl }
 put-refusal n put.NoRoom k = record { result = refl; values = refl }
 put-refusal n put.SizeChanged k = record { result = refl; values = refl }
 
-pub offset-refusal : (a : PutTree) → OneOf (1 ∷ 2 ∷ 3 ∷ 4 ∷ 5 ∷ 6 ∷ 7 ∷ []) (tagOf puts.the-type a) → Reports (putAs a) (numberOf (putAs a)) (0 ∷ 0 ∷ [])
-offset-refusal (put.At o) k = absurd (no-zero 0 (1 ∷ 2 ∷ 3 ∷ 4 ∷ 5 ∷ 6 ∷ []) k)
-offset-refusal put.TextTooLong k = record { result = refl; values = refl }
-offset-refusal put.UnsoundRecord k = record { result = refl; values = refl }
-offset-refusal put.NotATree k = record { result = refl; values = refl }
-offset-refusal put.InvalidAtom k = record { result = refl; values = refl }
-offset-refusal put.WritingFinished k = record { result = refl; values = refl }
-offset-refusal put.NoRoom k = record { result = refl; values = refl }
-offset-refusal put.SizeChanged k = record { result = refl; values = refl }
-
 -- an enquiry's answer: a size, or a refusal
 pub size-reported : {m : Measured} {bytes breaks indents : ℕ} → m ≡ size.Size bytes breaks indents → ReportsEnquiry (measuredAs m) 0 (bytes ∷ breaks ∷ indents ∷ [])
 size-reported e = rw e (record { result = refl; size = refl })

@@ -25,7 +25,7 @@ use Rattle.sise_parser.specs.declared.reader.Reader.{Reader}
 use Rattle.sise_serializer.specs.Bytes.{pasted}
 use Rattle.sise_serializer.specs.Calls.{Call, putAtomCall, beginListCall, endListCall, finishCall, step, Run, run}
 use Rattle.sise_serializer.specs.Serializer as serializer
-use Rattle.sise_serializer.specs.Serializer.{Style, accepted, Written, refuse as refuseCall, Piece, limit, isSound, place, firstAtom, firstList, inner, close, last, putIn, putAtom, beginIn, beginList, endIn, endList, finishIn, finishWriting}
+use Rattle.sise_serializer.specs.Serializer.{Style, accepted, Written, refuse, Piece, limit, isSound, place, firstAtom, firstList, inner, close, last, putIn, putAtom, beginIn, beginList, endIn, endList, finishIn, finishWriting}
 use Rattle.sise_serializer.specs.Words.{callOf, decoded, callsOf, answerWord, RunsFrom}
 use Rattle.sise_serializer.specs.declared.calls.Ran.{Ran}
 use Rattle.sise_serializer.specs.declared.serializer.Phase.{Phase}
@@ -35,18 +35,11 @@ use Rattle.sise_parser.proofs.Parts.{part-inside}
 use Rattle.sise_serializer.proofs.Bytes.{pasted-none}
 use Rattle.sise_serializer.proofs.Does.{unsound-call}
 use Rattle.sise_serializer.proofs.Verdicts.{Verdict, refuses, puts, verdict}
-use Rattle.sise_tree.specs.Answers.{Answer, answered, refused, refusedWith, parsedAs}
-use Rattle.sise_tree.specs.ParseTree.{Parses, parseTree, DoesParse}
-use Rattle.sise_tree.specs.Tree.{Node, atom, list}
-use Rattle.sise_tree.specs.declared.parse.TreeRead.{TreeRead}
-use Rattle.sise_tree_writer.specs.Answers.{putAs}
-use Rattle.sise_tree_writer.specs.SerializeTree.{nodeCalls, treeCalls, fits, Writes, refuse, written, writeTree, serializeTree, DoesWrite}
-use Rattle.sise_tree_writer.specs.declared.serialize.TreeWrote.{TreeWrote}
-use Rattle.sise_tree_writer.proofs.Measured.{Tested, fails, passes, tested, written-off, on-answer}
+use Rattle.sise_tree.specs.Answers.{Answer, answered, refused, refusedWith}
 use Rattle.sise_c.specs.Kept.{readerAs, writerAs}
 use Rattle.sise_c.specs.Records.{readerOf, readerWords, serializerOf, serializerWords}
 use Rattle.sise_c.specs.Reports.{Reports}
-use Rattle.sise_c.specs.Singly.{ReportsNext, Stands, stands, nextBy, nextOf, endingAnswer, finishBy, finishOf, putAnswer, wordAnswer, Leaves, leaves, callBy, callOn, noRecord, TreeStands, treeStands, nextTreeBy, nextTreeOf, treeLeaves, putTreeBy, putTreeOf}
+use Rattle.sise_c.specs.Singly.{ReportsNext, Stands, stands, nextBy, nextOf, endingAnswer, finishBy, finishOf, putAnswer, wordAnswer, Leaves, leaves, callBy, callOn}
 use Rattle.sise_c.specs.declared.reading.KeptReader.{KeptReader}
 use Rattle.sise_c.specs.declared.reading.KeptReader.the-variants as reading
 use Rattle.sise_c.specs.declared.writing.KeptWriter.{KeptWriter}
@@ -131,7 +124,7 @@ module _ (s : Style) (room : ℕ) (w : Serializer) where
   small-finish wished phase.Finished = small-place (last s w wished)
   small-finish wished phase.Done = omega arith
 
-  small-cond : (b : Bool) (d : Written) (n : ℕ) → n < 2 ^ 32 → Small (d .answer) → Small (cond b d (refuseCall n w) .answer)
+  small-cond : (b : Bool) (d : Written) (n : ℕ) → n < 2 ^ 32 → Small (d .answer) → Small (cond b d (refuse n w) .answer)
   small-cond true d n l h = h
   small-cond false d n l h = l
 
@@ -239,44 +232,6 @@ module _ (c : Call) (s : Style) (ws buf : List ℕ) {k : KeptWriter} (e : writer
       subst (λ (x : Leaves). Left x n values words bytes) (call-by d)
       (reports-by (sym e) refl t, (z ∙ ap serializerWords (p .serializer), p .buffer))
 
--- ---- the tree calls
-
--- what reading a node promises that leaves d: its result, its values, and the record's words and the table's at its end
-abbrev Read : TreeStands → ℕ → List ℕ → List ℕ → List ℕ → Type 0
-Read d r values words table = Reports (d .answer) r values × ((words ≡ d .words) × (table ≡ d .table))
-
-module _ (text ws table : List ℕ) {k : KeptReader} (e : readerAs k ≡ readerOf ws) where
-  tree-by : {j : KeptReader} → k ≡ j → nextTreeBy text ws table (readerAs j) ≡ nextTreeOf text ws table
-  unfolding nextTreeOf
-  tree-by d = ap (nextTreeBy text ws table) (sym (ap readerAs d) ∙ e)
-
-  pub tree-unsound : {n : ℕ} → k ≡ reading.Unsound → n ≡ noRecord text → Read (nextTreeOf text ws table) n (0 ∷ 0 ∷ []) ws table
-  unfolding nextTreeBy
-  tree-unsound {n} d h = subst (λ (x : TreeStands). Read x n (0 ∷ 0 ∷ []) ws table) (tree-by d) (record { result = h; values = refl }, (refl, refl))
-
-  pub tree-read : {r : Reader} (m : TreeRead) {n : ℕ} {values words now : List ℕ} → k ≡ reading.Is r → DoesParse (parseTree text r table) m now
-      → Reports (parsedAs (m .answer)) n values → words ≡ readerWords (m .reader) → Read (nextTreeOf text ws table) n values words now
-  unfolding nextTreeBy
-  tree-read m {n} {values} {words} {now} d p t z =
-      subst (λ (x : TreeStands). Read x n values words now) (tree-by d)
-      (reports-by (sym (p .answer)) refl t, (z ∙ ap readerWords (p .reader), p .words))
-
-module _ (s : Style) (ws buf text table : List ℕ) (t : ℕ) {k : KeptWriter} (e : writerAs k ≡ serializerOf ws) where
-  put-by : {j : KeptWriter} → k ≡ j → putTreeBy s ws buf text table t (writerAs j) ≡ putTreeOf s ws buf text table t
-  unfolding putTreeOf
-  put-by d = ap (putTreeBy s ws buf text table t) (sym (ap writerAs d) ∙ e)
-
-  pub put-unsound : {n : ℕ} → k ≡ writing.Unsound → n ≡ noRecord text → Left (putTreeOf s ws buf text table t) n (0 ∷ 0 ∷ []) ws buf
-  unfolding putTreeBy
-  put-unsound {n} d h = subst (λ (x : Leaves). Left x n (0 ∷ 0 ∷ []) ws buf) (put-by d) (record { result = h; values = refl }, (refl, refl))
-
-  pub put-wrote : {w : Serializer} (m : TreeWrote) {n : ℕ} {values words bytes : List ℕ} → k ≡ writing.Is w → DoesWrite (serializeTree s buf w text table t) m bytes
-      → Reports (putAs (m .answer)) n values → words ≡ serializerWords (m .serializer) → Left (putTreeOf s ws buf text table t) n values words bytes
-  unfolding putTreeBy
-  put-wrote m {n} {values} {words} {bytes} d p r z =
-      subst (λ (x : Leaves). Left x n values words bytes) (put-by d)
-      (reports-by (sym (p .answer)) refl r, (z ∙ ap serializerWords (p .serializer), p .buffer))
-
 -- ---- a refused call leaves the words and the buffer: the record that it hands back is the one that it was given, and it has no bytes
 
 abbrev isRefused : Answer → Bool
@@ -299,40 +254,6 @@ refused-stays c s ws buf n {x} h = go (serializerOf ws) refl h
         let t = written-nothing buf (verdict s (length buf) w c) r in
         (ap serializerWords (t .0) ∙ writer-words ws n e, ap (pasted buf (w .position)) (t .1) ∙ pasted-none buf (w .position))
 
--- the same of a tree: its calls are one or more, and so their writing has an answer where they fit
-module _ (s : Style) (buf : List ℕ) (w : Serializer) where
-  written-stays : (c : Call) (cs : List Call) {x : Refusal} → written s buf w (c ∷ cs) .answer ≡ refused x → written s buf w (c ∷ cs) ≡ refuse 22 buf w
-  written-stays c cs h =
-      split (fits s (length buf) w (c ∷ cs))
-      (λ f. let (o, e) = on-answer s buf w c cs f in absurd (false≢true (ap isRefused (sym e ∙ h))))
-      (written-off s buf w (c ∷ cs))
-
-module _ (s : Style) (buf : List ℕ) (w : Serializer) (text table : List ℕ) (t : ℕ) where
-  node-stays : (n : Node) {x : Refusal} → written s buf w (treeCalls text t n) .answer ≡ refused x → written s buf w (treeCalls text t n) ≡ refuse 22 buf w
-  unfolding nodeCalls
-  node-stays (atom k p n) h = written-stays s buf w _ _ h
-  node-stays (list c) h = written-stays s buf w _ _ h
-
-  tree-stays : {x : Refusal} → serializeTree s buf w text table t .answer ≡ refused x → (k : ℕ) × (serializeTree s buf w text table t ≡ refuse k buf w)
-  unfolding serializeTree
-  tree-stays {x} h = of (tested s w text table)
-    where
-      of : Tested s w text table → (k : ℕ) × (writeTree s buf w text table (treeCalls text t) ≡ refuse k buf w)
-      of (fails k lt q) = (k, q buf (treeCalls text t))
-      of (passes n d a u v q) = let z = q buf (treeCalls text t) in (22, z ∙ node-stays n (sym (ap (λ (y : Writes). y .answer) z) ∙ h))
-
-pub refused-tree-stays : (s : Style) (ws buf text table : List ℕ) (t : ℕ) → length ws ≡ 9 → {x : Refusal} → putTreeOf s ws buf text table t .answer ≡ refused x
-    → (putTreeOf s ws buf text table t .words ≡ ws) × (putTreeOf s ws buf text table t .buffer ≡ buf)
-unfolding putTreeOf putTreeBy
-refused-tree-stays s ws buf text table t n {x} h = go (serializerOf ws) refl h
-  where
-    go : (o : Option Serializer) → serializerOf ws ≡ o → putTreeBy s ws buf text table t o .answer ≡ refused x
-        → (putTreeBy s ws buf text table t o .words ≡ ws) × (putTreeBy s ws buf text table t o .buffer ≡ buf)
-    go none e r = (refl, refl)
-    go (some w) e r =
-        let (k, z) = tree-stays s buf w text table t r in
-        (ap (λ (d : Writes). serializerWords (d .serializer)) z ∙ writer-words ws n e, ap (λ (d : Writes). d .buffer) z)
-
 -- ---- calls over the words of a record are calls over the record, so a list of calls gives over words what it gives over records
 
 pub next-kept : (text : List ℕ) (r : Reader) → nextOf text (readerWords r) ≡ stands (nextItem text r)
@@ -346,12 +267,3 @@ finish-kept text r = ap (finishBy text) (reader-kept r)
 pub call-kept : (c : Call) (s : Style) (w : Serializer) (buf : List ℕ) → callOn c s (serializerWords w) buf ≡ leaves buf w (step s (length buf) w c)
 unfolding callOn callBy
 call-kept c s w buf = ap (callBy c s (serializerWords w) buf) (writer-kept w)
-
-pub next-tree-kept : (text : List ℕ) (r : Reader) (table : List ℕ) → nextTreeOf text (readerWords r) table ≡ treeStands (parseTree text r table)
-unfolding nextTreeOf nextTreeBy
-next-tree-kept text r table = ap (nextTreeBy text (readerWords r) table) (reader-kept r)
-
-pub put-tree-kept : (s : Style) (w : Serializer) (buf text table : List ℕ) (t : ℕ)
-    → putTreeOf s (serializerWords w) buf text table t ≡ treeLeaves (serializeTree s buf w text table t)
-unfolding putTreeOf putTreeBy
-put-tree-kept s w buf text table t = ap (putTreeBy s (serializerWords w) buf text table t) (writer-kept w)

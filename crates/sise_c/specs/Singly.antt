@@ -5,7 +5,7 @@ use mathlib.Core.Path.{_≡_}
 use mathlib.Core.Bool.{cond}
 use mathlib.Core.Option.{Option, none, some}
 use mathlib.Core.List.{List, [], _∷_}
-use lib.Dec.{leb, ltb}
+use lib.Dec.{leb}
 use lib.ListN.{length, take}
 use Rattle.sise_parser.specs.Reader as reader
 use Rattle.sise_parser.specs.Reader.{nextItem, Ending, ended, notEnded, finishReading}
@@ -16,11 +16,8 @@ use Rattle.sise_serializer.specs.Serializer as serializer
 use Rattle.sise_serializer.specs.Serializer.{Style, Written}
 use Rattle.sise_serializer.specs.declared.serializer.Serializer.{Serializer}
 use Rattle.sise_tree.specs.Answers.{Answer, answered, refused, refusedWith}
-use Rattle.sise_tree.specs.ParseTree.{longest, Parses, parseTree}
-use Rattle.sise_tree_writer.specs.SerializeTree.{Writes, serializeTree}
 use Rattle.sise_c.specs.Items.{itemWords}
 use Rattle.sise_c.specs.Records.{readerOf, readerWords, serializerOf, serializerWords}
-use Rattle.sise_c.specs.Reports.{Reports}
 
 -- ---- next_item
 
@@ -95,41 +92,3 @@ callBy c s ws buf (some w) = leaves buf w (step s (length buf) w c)
 
 unfoldable pub callOn : Call → Style → List ℕ → List ℕ → Leaves
 callOn c s ws buf = callBy c s ws buf (serializerOf ws)
-
--- ---- the tree calls: "`parse_tree`: 13, 11, 9, .." and "`serialize_tree`: 13, 11, 15, .."
-
--- words that mean no record are unsound, and 13 comes before 11
-unfoldable pub noRecord : List ℕ → ℕ
-noRecord text = cond (ltb longest (length text)) 13 11
-
--- what reading a node leaves: the answer, the record's words and the table's
-pub record TreeStands : Type 0 where
-  pub answer : Answer
-  pub words : List ℕ
-  pub table : List ℕ
-
-abbrev pub treeStands : Parses → TreeStands
-treeStands d = record { answer = d .answer; words = readerWords (d .reader); table = d .words }
-
--- words that mean no record stay as they are, and so does the table
-unfoldable pub nextTreeBy : List ℕ → List ℕ → List ℕ → Option Reader → TreeStands
-nextTreeBy text ws table none = record { answer = refusedWith (noRecord text); words = ws; table = table }
-nextTreeBy text ws table (some r) = treeStands (parseTree text r table)
-
-unfoldable pub nextTreeOf : List ℕ → List ℕ → List ℕ → TreeStands
-nextTreeOf text ws table = nextTreeBy text ws table (readerOf ws)
-
--- "a tree with its first item's" offset; a refusal leaves words and buffer
-abbrev pub treeLeaves : Writes → Leaves
-treeLeaves d = record { answer = d .answer; words = serializerWords (d .serializer); buffer = d .buffer }
-
--- what a call reports that leaves d
-abbrev pub Tells : Leaves → ℕ → List ℕ → Type 0
-Tells d r now = Reports (d .answer) r now
-
-unfoldable pub putTreeBy : Style → List ℕ → List ℕ → List ℕ → List ℕ → ℕ → Option Serializer → Leaves
-putTreeBy s ws buf text table t none = record { answer = refusedWith (noRecord text); words = ws; buffer = buf }
-putTreeBy s ws buf text table t (some w) = treeLeaves (serializeTree s buf w text table t)
-
-unfoldable pub putTreeOf : Style → List ℕ → List ℕ → List ℕ → List ℕ → ℕ → Leaves
-putTreeOf s ws buf text table t = putTreeBy s ws buf text table t (serializerOf ws)

@@ -1,7 +1,5 @@
 // The reader's calls one by one, over the words of a record that the caller keeps: position, phase (0 beginning, 1 parsing, 2 finishing) and open lists.
 use crate::report::Values;
-use crate::report::no_record;
-use crate::report::report_parsed;
 use crate::report::report_refused;
 use sise_parser::Answer;
 use sise_parser::Finished;
@@ -9,7 +7,6 @@ use sise_parser::Next;
 use sise_parser::ParsedItem;
 use sise_parser::Phase;
 use sise_parser::Reader;
-use sise_tree::parse_tree;
 ghost use mathlib.Core.Path.{_≡_};
 ghost use mathlib.Core.Option.{some};
 ghost use lib.ListN.{take};
@@ -19,7 +16,7 @@ ghost use Rattle.sise_c.specs.Items.{itemWords};
 ghost use Rattle.sise_c.specs.Kept.{readerAs};
 ghost use Rattle.sise_c.specs.Records.{readerPhaseWord, readerOf, readerWords};
 ghost use Rattle.sise_c.specs.Reports.{Reports};
-ghost use Rattle.sise_c.specs.Singly.{ReportsNext, nextOf, finishOf, nextTreeOf};
+ghost use Rattle.sise_c.specs.Singly.{ReportsNext, nextOf, finishOf};
 
 // A reader's record in words.
 pub type ReaderWords = [u64; 3];
@@ -142,29 +139,4 @@ pub extern "C" fn sise_finish_reading(text: &[u8], record: &ReaderWords, values:
         }
         Finished::Refused(error) => report_refused(error, values),
     }
-}
-
-// Reads the node due into the table's first words. The first value is how many nodes it has; of a refusal the values are place and code point. The record's words
-// are for the next call.
-#[no_mangle]
-pub extern "C" fn sise_next_tree(
-    text: &[u8],
-    record: &mut ReaderWords,
-    table: &mut [u32],
-    values: &mut Values,
-) -> u32
-    ensures answer { λ r. ⌜ Reports (nextTreeOf (now (text .entry)) (now («record» .entry)) (now (table .entry)) .answer) r (now (values .exit)) ⌝ }
-    ensures words { λ r. ⌜ now («record» .exit) ≡ nextTreeOf (now (text .entry)) (now («record» .entry)) (now (table .entry)) .words ⌝ }
-    ensures nodes { λ r. ⌜ now (table .exit) ≡ nextTreeOf (now (text .entry)) (now («record» .entry)) (now (table .entry)) .table ⌝ }
-{
-    let kept = reader_of(record);
-    let KeptReader::Is(reader) = kept else {
-        *values = [0, 0];
-        return no_record(text);
-    };
-    let read = parse_tree(text, reader, table);
-    let after = read.reader;
-    let answer = read.answer;
-    put_reader(after, record);
-    report_parsed(answer, values)
 }

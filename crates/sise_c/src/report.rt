@@ -2,7 +2,6 @@
 use sise_parser::ParseError;
 use sise_tree::Found;
 use sise_tree::Indexed;
-use sise_tree::LONGEST;
 use sise_tree::ParsedTree;
 use sise_tree_writer::Measured;
 use sise_tree_writer::PutTree;
@@ -13,7 +12,6 @@ ghost use Rattle.sise_tree_writer.specs.Answers.{putAs};
 ghost use Rattle.sise_tree_writer.specs.Sizes.{measuredAs};
 ghost use Rattle.sise_tree.specs.FindPath.{foundAs};
 ghost use Rattle.sise_c.specs.Reports.{Reports, ReportsFound, sizeOr, ReportsEnquiry, sizeGiven};
-ghost use Rattle.sise_c.specs.Singly.{noRecord};
 
 // What a call answers beside its result.
 pub type Values = [u64; 2];
@@ -95,25 +93,6 @@ pub(crate) fn report_put(answer: PutTree, position: usize, values: &mut Values) 
     }
     *values = [0, 0];
     answer.number()
-}
-
-// A tree was put at an offset, or refused.
-pub(crate) fn report_offset(answer: PutTree, values: &mut Values) -> u32
-    ensures { λ r. ⌜ Reports (putAs answer) r (now (values .exit)) ⌝ }
-{
-    if let PutTree::At(offset) = answer {
-        *values = [offset as u64, 0];
-        return 0;
-    }
-    *values = [0, 0];
-    answer.number()
-}
-
-// A tree call's refusal over words that mean no record: 13 comes before 11.
-pub(crate) fn no_record(text: &[u8]) -> u32
-    ensures { λ r. ⌜ r ≡ noRecord (now (text .entry)) ⌝ }
-{
-    if text.len() > LONGEST { 13 } else { 11 }
 }
 
 pub(crate) fn report_refused(error: ParseError, values: &mut Values) -> u32

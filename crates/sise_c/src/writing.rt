@@ -1,13 +1,10 @@
 // The writer's calls one by one, over the words of a record that the caller keeps: position, phase (0 beginning, 1 writing, 2 finished, 3 done), open lists,
 // how many of them have a line break in them, whether the list is at its beginning (0 or 1), line length, spaces, breaks and indents.
 use crate::report::Values;
-use crate::report::no_record;
-use crate::report::report_offset;
 use sise_serializer::Phase;
 use sise_serializer::Ran;
 use sise_serializer::Serializer;
 use sise_serializer::write_calls_from;
-use sise_tree_writer::serialize_tree;
 ghost use mathlib.Core.Path.{_≡_};
 ghost use mathlib.Core.Bool.{cond};
 ghost use mathlib.Core.Option.{some};
@@ -19,7 +16,7 @@ ghost use Rattle.sise_serializer.specs.Serializer.{style};
 ghost use Rattle.sise_c.specs.Kept.{writerAs};
 ghost use Rattle.sise_c.specs.Records.{writerPhaseWord, flagWord, serializerIn, serializerOf, serializerWords};
 ghost use Rattle.sise_c.specs.Reports.{Reports};
-ghost use Rattle.sise_c.specs.Singly.{wordAnswer, callOn, Tells, putTreeOf};
+ghost use Rattle.sise_c.specs.Singly.{wordAnswer, callOn};
 
 // A writer's record in words.
 pub type WriterWords = [u64; 9];
@@ -232,32 +229,4 @@ pub extern "C" fn sise_finish_writing(
     let mut answers = [UNSOUND];
     let ran = write_calls_from(w, &call, b"", line_break, indentation, buf, &mut answers);
     report_ran(ran, answers[0], record, values)
-}
-
-// Writes the tree that the table holds over `text` behind what the record has written. The first value is the offset of its first item.
-#[no_mangle]
-pub extern "C" fn sise_put_tree(
-    line_break: &[u8],
-    indentation: &[u8],
-    buf: &mut [u8],
-    text: &[u8],
-    table: &[u32],
-    break_line_at: u64,
-    record: &mut WriterWords,
-    values: &mut Values,
-) -> u32
-    ensures answer { λ r. ⌜ Tells (putTreeOf (style (now («line_break» .entry)) (now (indentation .entry))) (now («record» .entry)) (now (buf .entry)) (now (text .entry)) (now (table .entry)) «break_line_at») r (now (values .exit)) ⌝ }
-    ensures words { λ r. ⌜ now («record» .exit) ≡ putTreeOf (style (now («line_break» .entry)) (now (indentation .entry))) (now («record» .entry)) (now (buf .entry)) (now (text .entry)) (now (table .entry)) «break_line_at» .words ⌝ }
-    ensures bytes { λ r. ⌜ now (buf .exit) ≡ putTreeOf (style (now («line_break» .entry)) (now (indentation .entry))) (now («record» .entry)) (now (buf .entry)) (now (text .entry)) (now (table .entry)) «break_line_at» .buffer ⌝ }
-{
-    let kept = writer_of(record);
-    let KeptWriter::Is(w) = kept else {
-        *values = [0, 0];
-        return no_record(text);
-    };
-    let wrote = serialize_tree(w, line_break, indentation, buf, text, table, break_line_at);
-    let after = wrote.serializer;
-    let answer = wrote.answer;
-    put_writer(after, record);
-    report_offset(answer, values)
 }
