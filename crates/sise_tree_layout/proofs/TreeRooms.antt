@@ -1,7 +1,7 @@
 -- What a tree call does in one buffer, written or measured, decides what it does in every other: if it is written there and leaves the position n, each buffer of
 -- n bytes or more has the same record, answer and bytes, and each shorter one 22; and what 16,777,216 bytes refuse, every buffer refuses with the same number.
 -- Assumes nothing.
-use Prim.Native.Nat.{ℕ, _+_, _≤_, _<_}
+use Prim.Native.Nat.{ℕ, _≤_, _<_}
 use native.Mathlib.Omega.{arith}
 use mathlib.Core.Path.{_≡_, sym, ap, _∙_}
 use mathlib.Core.Bool.{true, false, false≢true}
@@ -13,10 +13,9 @@ use Rattle.sise_serializer.specs.Serializer.{Style, limit, freshSerializer}
 use Rattle.sise_serializer.specs.declared.serializer.Serializer.{Serializer}
 use Rattle.sise_serializer.specs.Calls.{Call, run}
 use Rattle.sise_tree.specs.Tree.{Node}
-use Rattle.sise_tree.specs.Answers.{Answer, answered, refusedWith, numberOf}
+use Rattle.sise_tree.specs.Answers.{Answer, answered, refusedWith}
 use Rattle.sise_tree_writer.specs.SerializeTree.{fits, Writes, refuse, firstOffset, written, writeTree}
 use Rattle.sise_tree_writer.proofs.Measured.{no-answer, same-number, on-answer, left, written-on, written-off, Tested, fails, passes, tested}
-use Rattle.sise_tree_writer.proofs.Placing.{fits-lands}
 use Rattle.sise_tree_layout.proofs.Rooms.{exact-room, alike, larger, text-alike}
 
 -- what is the same has the same answer
