@@ -1,6 +1,7 @@
 // The public calls of sise_serializer that run a list of calls or copy bytes, under the contract that each has there and with a body that only calls it:
 // the promises of the library on one page, with contract_writer. An edit of must-fail/ puts a wrong program in the place of a body, and the contract has
 // to refuse it.
+#![tactic(auto)]
 ghost use Rattle.std.specs.Prelude.{◌≡◌, ◌++◌, ◌+◌, ◌*◌};
 ghost use Rattle.sise_serializer.specs.Bytes.{pasted_if, repeat};
 ghost use Rattle.sise_serializer.specs.Parts.{spot_of};

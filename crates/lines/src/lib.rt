@@ -1,4 +1,5 @@
 // Text for a program's output, collected in a lent block, which is written whenever it is full.
+#![tactic(auto)]
 mod item;
 
 ghost use Rattle.std.specs.Prelude.{◌≡◌, [], ◌∷◌};

@@ -192,7 +192,7 @@ fn put_size(out: &mut Block, at: usize, measured: Measured) -> usize {
 }
 
 // What a commit leaves, and the place after its lines.
-#[derive(Drop)]
+#[derive(Clone, Copy)]
 struct Committed {
     serializer: Serializer,
     place: usize,

@@ -1,4 +1,5 @@
 // The parts of a script: replay's main file says what a script is. A part that cannot be read is malformed; one that is read lies in the script.
+#![tactic(auto)]
 mod tree;
 
 ghost use Rattle.std.specs.Prelude.{◌≡◌, length};
@@ -11,21 +12,21 @@ const LARGEST: usize = 999999999;
 
 // A case that was run, with the output's place after its answers and the next case's place in the script; or one that cannot be run to
 // its end.
-#[derive(Drop)]
+#[derive(Clone, Copy)]
 pub enum Ran {
     Case { place: usize, next: usize },
     Malformed { place: usize },
 }
 
 // A number, and the place after the byte that ends it.
-#[derive(Drop)]
+#[derive(Clone, Copy)]
 pub enum Number {
     Read(usize, usize),
     Malformed,
 }
 
 // The fields of a case that begins with a text: where the text begins, its length, the number of next_item calls, and the last number of the line.
-#[derive(Drop)]
+#[derive(Clone, Copy)]
 pub enum TextCase {
     Read {
         start: usize,
@@ -38,7 +39,7 @@ pub enum TextCase {
 
 // The fields of a writer's line: the buffer's length, where the line break begins, its length and that of the indentation after it, and the number of
 // calls.
-#[derive(Drop)]
+#[derive(Clone, Copy)]
 pub enum WriterCase {
     Read {
         room: usize,
@@ -51,7 +52,7 @@ pub enum WriterCase {
 }
 
 // What a writer's call asks for: its letter, its threshold or wish, and where an atom begins and ends.
-#[derive(Drop)]
+#[derive(Clone, Copy)]
 pub struct Asked {
     pub letter: u8,
     pub number: usize,
@@ -60,7 +61,7 @@ pub struct Asked {
 }
 
 // A writer's call, and the next one's place.
-#[derive(Drop)]
+#[derive(Clone, Copy)]
 pub enum Call {
     Read(Asked, usize),
     Malformed,

@@ -6,7 +6,7 @@ use crate::{Number, meant, read_field, read_number};
 
 // What a tree's line asks for: how many lists the writer has open, the threshold, the table's first word that the tree calls are lent, and the number
 // of paths.
-#[derive(Drop)]
+#[derive(Clone, Copy)]
 pub struct TreeCalls {
     pub lists: usize,
     pub threshold: usize,
@@ -15,14 +15,14 @@ pub struct TreeCalls {
 }
 
 // A tree's line, and the place after it.
-#[derive(Drop)]
+#[derive(Clone, Copy)]
 pub enum TreeLine {
     Read(TreeCalls, usize),
     Malformed,
 }
 
 // How many numbers a list has, and where its line ends.
-#[derive(Drop)]
+#[derive(Clone, Copy)]
 pub enum Numbers {
     Read(usize, usize),
     Malformed,

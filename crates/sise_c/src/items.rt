@@ -11,14 +11,14 @@ use sise_parser::{
 };
 
 // How many items there are up to the first refusal, and whether the text ends with the last.
-#[derive(Drop)]
+#[derive(Clone, Copy)]
 pub(crate) struct Counted {
     pub items: usize,
     pub ending: Finished,
 }
 
 // Where a pass over the text stands: the reader's position, how many lists are open, and how many items there were.
-#[derive(Drop)]
+#[derive(Clone, Copy)]
 struct Place {
     position: usize,
     lists: usize,

@@ -1,6 +1,7 @@
 // Calls for programs in C and Rust, over numbers and slices alone: include/sise.h declares them and says what a caller owes. Each does a whole job on
 // memory that is lent to it. The result is 0 or document 01's number of the refusal; `values` are what is answered and 0, or the refusal's place and
 // code point. On a refusal nothing else is written.
+#![tactic(auto)]
 mod items;
 mod reading;
 mod report;

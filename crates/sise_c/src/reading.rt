@@ -19,7 +19,7 @@ pub type ReaderWords = [u64; 3];
 pub type ItemWords = [u64; 3];
 
 // The record that words mean, if they mean one.
-#[derive(Drop)]
+#[derive(Clone, Copy)]
 enum KeptReader {
     Is(Reader),
     Unsound,

@@ -20,7 +20,7 @@ pub type WriterWords = [u64; 9];
 const UNSOUND: u64 = 4294967307;
 
 // The record that words mean, if they mean one.
-#[derive(Drop)]
+#[derive(Clone, Copy)]
 enum KeptWriter {
     Is(Serializer),
     Unsound,

@@ -3,7 +3,7 @@
 ghost use Rattle.std.specs.Prelude.{◌≡◌};
 ghost use Rattle.sise_parser.specs.Refusals.{refusal_of};
 
-#[derive(Drop)]
+#[derive(Clone, Copy)]
 pub enum ParseError {
     // A character that begins no token.
     IllegalChr { pos: usize, chr: u32 },

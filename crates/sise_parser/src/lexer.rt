@@ -11,7 +11,7 @@ use crate::error::ParseError;
 use sise_util::classes::{BACKSLASH, ClassTable, LINE_END, OTHER, QUOTE, TAB, classes};
 use sise_util::{Character, character_at, is_atom_byte};
 
-#[derive(Drop)]
+#[derive(Clone, Copy)]
 pub enum Token {
     Eof,
     LeftParen,
@@ -21,28 +21,28 @@ pub enum Token {
 }
 
 // An error, and the position after it.
-#[derive(Drop)]
+#[derive(Clone, Copy)]
 pub struct Wrong {
     pub error: ParseError,
     pub position: usize,
 }
 
 // A token, its place and the position after it, or an error.
-#[derive(Drop)]
+#[derive(Clone, Copy)]
 pub enum Lexed {
     Found(Token, usize, usize),
     Refused(Wrong),
 }
 
 // Where a string that was begun ends: the position after its closing quote, or an error.
-#[derive(Drop)]
+#[derive(Clone, Copy)]
 enum StringEnd {
     Closed(usize),
     Refused(Wrong),
 }
 
 // Where a character stands that may not stand there.
-#[derive(Drop)]
+#[derive(Clone, Copy)]
 enum Place {
     Outside,
     InString,

@@ -7,14 +7,14 @@ ghost use Rattle.sise_parser.specs.Parser.{parser_of, parsed_as, parsed_of};
 
 use crate::reader::{Answer, Finished, Next, Reader};
 
-#[derive(Drop)]
+#[derive(Clone, Copy)]
 pub struct Parser<'a> {
     pub text: &'a [u8],
     pub reader: Reader,
 }
 
 // What next_item hands back: the parser for the next call, and the answer.
-#[derive(Drop)]
+#[derive(Clone, Copy)]
 pub struct Parsed<'a> {
     pub parser: Parser<'a>,
     pub answer: Answer,

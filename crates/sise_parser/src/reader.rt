@@ -10,7 +10,7 @@ use crate::error::ParseError;
 use crate::lexer::{Lexed, Token, get_token, skip_blanks};
 
 // Where the reader is in the text: before the first item, inside the outermost list, or after the last item.
-#[derive(Drop)]
+#[derive(Clone, Copy)]
 pub enum Phase {
     Beginning,
     Parsing,
@@ -18,7 +18,7 @@ pub enum Phase {
 }
 
 // The reader's record, which each call takes and hands back: the position, the phase and the number of open lists.
-#[derive(Drop)]
+#[derive(Clone, Copy)]
 pub struct Reader {
     pub position: usize,
     pub phase: Phase,
@@ -26,27 +26,27 @@ pub struct Reader {
 }
 
 // An item and its place; of an atom also its number of bytes.
-#[derive(Drop)]
+#[derive(Clone, Copy)]
 pub enum ParsedItem {
     Atom { pos: usize, len: usize },
     ListStart { pos: usize },
     ListEnd { pos: usize },
 }
 
-#[derive(Drop)]
+#[derive(Clone, Copy)]
 pub enum Answer {
     Item(ParsedItem),
     Refused(ParseError),
 }
 
 // What next_item hands back.
-#[derive(Drop)]
+#[derive(Clone, Copy)]
 pub struct Next {
     pub reader: Reader,
     pub answer: Answer,
 }
 
-#[derive(Drop)]
+#[derive(Clone, Copy)]
 pub enum Finished {
     Done,
     Refused(ParseError),

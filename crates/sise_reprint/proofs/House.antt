@@ -28,7 +28,7 @@ use Rattle.sise_tree_writer.specs.Writing.{text_calls}
 use Rattle.sise_tree_writer.specs.House.{house_style, house_at}
 use Rattle.sise_tree_writer.specs.Alike.{Tree, leaf, branch, tree_of, ReadsAs}
 use Rattle.sise_tree_writer.proofs.CallLaws.{fits_first, accepted_keeps, run_after, after_sound}
-use Rattle.sise_tree_writer.proofs.Measured.{no_answer, on_answer, left, written_on, written_off}
+use Rattle.sise_tree_writer.proofs.Measuring.{no_answer, on_answer, left, written_on, written_off}
 use Rattle.sise_tree_layout.proofs.ReadAgain.{read_again}
 use Rattle.sise_tree_layout.proofs.Rooms.{exact_room, text_alike}
 use Rattle.sise_tree_layout.proofs.TreeRooms.{written_measured}

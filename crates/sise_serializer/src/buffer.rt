@@ -7,7 +7,7 @@ ghost use Rattle.sise_serializer.specs.Parts.{spot_of, gap_bytes, break_bytes};
 pub const LIMIT: usize = 16777216;
 
 // A token's place: its first byte and its end.
-#[derive(Drop)]
+#[derive(Clone, Copy)]
 pub enum Spot {
     At(usize, usize),
     NoRoom,

@@ -8,7 +8,7 @@ use crate::serializer::{Put, Serializer, Wrote, close_list, finish_text, open_li
 use sise_parser::atom_bytes;
 
 // The record that the last call left, and how many calls ran.
-#[derive(Drop)]
+#[derive(Clone, Copy)]
 pub struct Ran {
     pub serializer: Serializer,
     pub calls: usize,

@@ -11,7 +11,7 @@ use crate::buffer::{LIMIT, Spot, break_len, copy, find_spot, write_break, write_
 use sise_util::check_atom;
 
 // Where the writer is: before the first item, inside the outermost list, after the last item, or after an accepted finish.
-#[derive(Drop)]
+#[derive(Clone, Copy)]
 pub enum Phase {
     Beginning,
     Writing,
@@ -20,7 +20,7 @@ pub enum Phase {
 }
 
 // The writer's record, which each call takes and hands back. The two small fields come last, so that few bytes are unused.
-#[derive(Drop)]
+#[derive(Clone, Copy)]
 pub struct Serializer {
     pub position: usize,
     // How many lists are open, and how many of them, from the outermost, have a line break in them.
@@ -36,7 +36,7 @@ pub struct Serializer {
 }
 
 // What a call answers: the offset of what it wrote, or a refusal.
-#[derive(Drop)]
+#[derive(Clone, Copy)]
 pub enum Put {
     At(usize),
     UnsoundRecord,
@@ -48,7 +48,7 @@ pub enum Put {
 }
 
 // What a call hands back.
-#[derive(Drop)]
+#[derive(Clone, Copy)]
 pub struct Wrote {
     pub serializer: Serializer,
     pub answer: Put,

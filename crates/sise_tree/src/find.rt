@@ -5,7 +5,7 @@ ghost use Rattle.sise_tree.specs.FindPath.{find_path, found_as, found_number};
 use crate::tree::{LONGEST, is_list, word};
 
 // What find_path answers: the node's index and the number of nodes looked at, or a refusal.
-#[derive(Drop)]
+#[derive(Clone, Copy)]
 pub enum Found {
     Node { index: usize, seen: usize },
     TextTooLong,

@@ -13,7 +13,7 @@ use sise_parser::{
 use sise_util::check_atom_prefix;
 
 // What parse_tree answers: the number of nodes, or a refusal.
-#[derive(Drop)]
+#[derive(Clone, Copy)]
 pub enum ParsedTree {
     Nodes(usize),
     // A refusal of the reader.
@@ -66,7 +66,7 @@ impl ParsedTree {
 }
 
 // What parse_tree hands back.
-#[derive(Drop)]
+#[derive(Clone, Copy)]
 pub struct TreeRead {
     pub reader: Reader,
     pub answer: ParsedTree,
@@ -96,7 +96,7 @@ fn settled(answer: Answer, nodes: usize) -> ParsedTree
 }
 
 // Where the counting stands: the reader's position, how many of the node's lists are open, and how many nodes there were.
-#[derive(Drop)]
+#[derive(Clone, Copy)]
 struct Counted {
     position: usize,
     depth: usize,
@@ -201,7 +201,7 @@ pub(crate) fn count_nodes(text: &[u8], reader: Reader) -> TreeRead
 
 // Where the filling stands: the index of the next node, and that of the innermost open list. Where none is open, both are 0: the root is its own parent, at
 // the distance 0.
-#[derive(Drop)]
+#[derive(Clone, Copy)]
 struct Mark {
     next: u32,
     parent: u32,
@@ -302,7 +302,7 @@ fn put_item(text: &[u8], table: &mut [u32], mark: Mark, item: ParsedItem, end: u
 }
 
 // Where the filling and its reader stand: the position, how many of the node's lists are open, and the mark's fields.
-#[derive(Drop)]
+#[derive(Clone, Copy)]
 struct Filled {
     position: usize,
     depth: usize,

@@ -14,7 +14,7 @@ use sise_util::{AtomKind, check_atom_prefix};
 pub const LONGEST: usize = 16777216;
 
 // What a table holds over a text.
-#[derive(Drop)]
+#[derive(Clone, Copy)]
 pub enum Held {
     // A tree, and each atom of it is one.
     Tree,
@@ -25,7 +25,7 @@ pub enum Held {
 }
 
 // What index_path answers: the node's index, or a refusal.
-#[derive(Drop)]
+#[derive(Clone, Copy)]
 pub enum Indexed {
     Node(usize),
     TextTooLong,

@@ -27,7 +27,7 @@ use Rattle.sise_tree_writer.specs.Walking.{after}
 use Rattle.sise_tree_writer.specs.Sizes.{adds, enquiry, commit_text}
 use Rattle.sise_tree_writer.proofs.CallLaws.{fits_first, run_after, lists_after, accepted_lists}
 use Rattle.sise_tree_writer.proofs.Placing.{puts_end, lands_put, fits_lands}
-use Rattle.sise_tree_writer.proofs.Measured.{Accepted, tree_accepted}
+use Rattle.sise_tree_writer.proofs.Measuring.{Accepted, tree_accepted}
 use Rattle.sise_tree_writer.proofs.Sizes.{run_grown}
 use Rattle.sise_tree_layout.proofs.SizeLaws.{other_size, written_of, size_between}
 

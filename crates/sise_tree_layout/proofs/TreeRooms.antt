@@ -15,7 +15,7 @@ use Rattle.sise_serializer.specs.Calls.{Call, run}
 use Rattle.sise_tree.specs.Tree.{Node}
 use Rattle.sise_tree.specs.Answers.{Answer, answered, refused_with}
 use Rattle.sise_tree_writer.specs.SerializeTree.{fits, Writes, refuse, first_offset, written, write_tree}
-use Rattle.sise_tree_writer.proofs.Measured.{no_answer, same_number, on_answer, left, written_on, written_off, Tested, fails, passes, tested}
+use Rattle.sise_tree_writer.proofs.Measuring.{no_answer, same_number, on_answer, left, written_on, written_off, Tested, fails, passes, tested}
 use Rattle.sise_tree_layout.proofs.Rooms.{exact_room, alike, larger, text_alike}
 
 -- what is the same has the same answer

@@ -14,7 +14,7 @@ use Rattle.sise_tree.specs.Answers.{answered}
 use Rattle.sise_tree_writer.specs.SerializeTree.{tree_calls, Writes, serialize_tree}
 use Rattle.sise_tree_writer.specs.Writing.{text_calls, write_text}
 use Rattle.sise_tree_writer.specs.Walking.{Writable, WritesNodes}
-use Rattle.sise_tree_writer.proofs.Measured.{Accepted, tree_accepted, accepted_checked}
+use Rattle.sise_tree_writer.proofs.Measuring.{Accepted, tree_accepted, accepted_checked}
 use Rattle.sise_tree_writer.proofs.Finishing.{text_tree, text_room, text_written}
 
 -- a tree

@@ -27,7 +27,7 @@ use Rattle.sise_tree_writer.specs.declared.serialize.PutTree.TheVariants.{At, No
 use Rattle.sise_tree_writer.specs.declared.serialize.TreeWrote.{TreeWrote}
 use Rattle.sise_tree_writer.proofs.Made.{Made, made}
 use Rattle.sise_tree_writer.proofs.CallLaws.{fits_first, accepted_keeps, run_after, after_sound}
-use Rattle.sise_tree_writer.proofs.Measured.{refused_measures, Tested, fails, passes, tested, first_offset_lem, offset_first, written_on, written_off, fits_measures, Accepted, tree_accepted}
+use Rattle.sise_tree_writer.proofs.Measuring.{refused_measures, Tested, fails, passes, tested, first_offset_lem, offset_first, written_on, written_off, fits_measures, Accepted, tree_accepted}
 
 -- ---- one call more
 

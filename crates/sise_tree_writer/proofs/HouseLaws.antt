@@ -15,7 +15,7 @@ use Rattle.sise_tree.specs.Answers.{answered}
 use Rattle.sise_tree_writer.specs.SerializeTree.{tree_calls, Writes, write_tree}
 use Rattle.sise_tree_writer.specs.Writing.{text_calls}
 use Rattle.sise_tree_writer.specs.House.{house_style, house_at}
-use Rattle.sise_tree_writer.proofs.Measured.{tree_accepted}
+use Rattle.sise_tree_writer.proofs.Measuring.{tree_accepted}
 
 -- the house call as document 01 has it, "LF, two spaces, threshold 0, final break": the tree's calls at 0, and a finish with a break
 pub at_0 : (buffer text words : List ℕ)

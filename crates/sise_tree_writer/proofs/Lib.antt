@@ -5,7 +5,7 @@ pub mod CallLaws
 pub mod Atoms
 pub mod Turns
 pub mod Walked
-pub mod Measured
+pub mod Measuring
 pub mod Finishing
 pub mod Accepting
 pub mod Placing

@@ -28,7 +28,7 @@ use Rattle.sise_tree_writer.specs.SerializeTree.{node_calls, row_calls, tree_cal
 use Rattle.sise_tree_writer.specs.Writing.{text_calls}
 use Rattle.sise_tree_writer.proofs.CallLaws.{checked_atom, fits_off}
 use Rattle.sise_tree_writer.proofs.Placing.{puts_sound, placed, not_placed, puts_place, put_fits}
-use Rattle.sise_tree_writer.proofs.Measured.{no_answer, Tested, fails, passes, tested, same_number, on_answer}
+use Rattle.sise_tree_writer.proofs.Measuring.{no_answer, Tested, fails, passes, tested, same_number, on_answer}
 use Rattle.sise_tree_writer.proofs.Finishing.{tree_begun}
 
 -- a refusal's number, or what follows an accepted call

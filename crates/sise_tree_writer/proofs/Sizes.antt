@@ -27,7 +27,7 @@ use Rattle.sise_tree_writer.specs.declared.serialize.TreeWrote.{TreeWrote}
 use Rattle.sise_tree_writer.specs.declared.size.Measured.{Measured}
 use Rattle.sise_tree_writer.specs.declared.size.Measured.TheVariants.{Size, TextTooLong, UnsoundRecord, NotATree, InvalidAtom, WritingFinished, NoRoom}
 use Rattle.sise_tree_writer.specs.contracts.size.Measured as sizes
-use Rattle.sise_tree_writer.proofs.Measured.{no_answer, written_on, written_off, Tested, fails, passes, tested, same_number, on_answer}
+use Rattle.sise_tree_writer.proofs.Measuring.{no_answer, written_on, written_off, Tested, fails, passes, tested, same_number, on_answer}
 
 -- ---- the counts go up
 

@@ -10,7 +10,7 @@ use sise_serializer::{Phase, Put, Serializer, Spot, find_spot};
 use sise_tree::wide;
 
 // What a walk comes to: all calls fit, with the record behind them and the first one's offset; or one does not.
-#[derive(Drop)]
+#[derive(Clone, Copy)]
 pub enum Walked {
     Fits(Serializer, usize),
     Refused,

@@ -15,7 +15,7 @@ use sise_serializer::{Phase, Serializer};
 use sise_tree::{Held, LONGEST, holds_tree};
 
 // What a call that writes a tree answers: the offset of the first item, or a refusal. Only a commit answers SizeChanged.
-#[derive(Drop)]
+#[derive(Clone, Copy)]
 pub enum PutTree {
     At(usize),
     TextTooLong,
@@ -28,7 +28,7 @@ pub enum PutTree {
 }
 
 // What it hands back.
-#[derive(Drop)]
+#[derive(Clone, Copy)]
 pub struct TreeWrote {
     pub serializer: Serializer,
     pub answer: PutTree,

@@ -7,7 +7,7 @@ use crate::serialize::{PutTree, TreeWrote};
 use sise_serializer::Serializer;
 
 // What measure_tree and measure_text answer: the bytes, line breaks and indentations that would be added, or the refusal.
-#[derive(Drop)]
+#[derive(Clone, Copy)]
 pub enum Measured {
     Size {
         bytes: usize,

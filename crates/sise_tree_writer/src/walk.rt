@@ -11,7 +11,7 @@ use sise_tree::wide;
 const LARGEST: u64 = 18446744073709551615;
 
 // Where a walk is: the next node, the innermost open list and its end, whether a list has just begun, and whether anything is left.
-#[derive(Drop)]
+#[derive(Clone, Copy)]
 pub struct Place {
     pub i: usize,
     pub list: usize,

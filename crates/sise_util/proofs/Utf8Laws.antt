@@ -50,6 +50,7 @@ module _ (m : ℕ) (f : Form) (fs : List Form) (t : T (rising m (f ∷ fs))) whe
   rest_rises = and_right (leb f.first.lo f.first.hi) (rising (suc f.first.hi) fs) others
 
 above : (m : ℕ) (fs : List Form) {f : Form} → T (rising m fs) → Memᴰ f fs → m ≤ f.first.lo
+above m [] {f = f} t x = elim x [ ]
 above m (g ∷ fs) t (Memᴰ.head e) = subst (λ (h : Form). m ≤ h.first.lo) (sym e) (lower m g fs t)
 above m (g ∷ fs) {f} t (Memᴰ.tail i) =
     let l : m ≤ g.first.lo = lower m g fs t in
@@ -67,6 +68,7 @@ unfolding by_rows
 row_passed f fs b l d = rw (within_no f.first.lo f.first.hi b d, by_rows)
 
 member_row : (m : ℕ) (fs : List Form) {f : Form} → T (rising m fs) → Memᴰ f fs → (b : ℕ) (l : List ℕ) → Begins b f → by_rows fs (b ∷ l) ≡ row_of f b l
+member_row m [] {f = f} t x b l i = elim x [ ]
 member_row m (g ∷ fs) t (Memᴰ.head e) b l i = ap (λ (h : Form). by_rows (h ∷ fs) (b ∷ l)) (sym e) ∙ row_taken _ fs b l i
 member_row m (g ∷ fs) {f} t (Memᴰ.tail j) b l i =
     row_passed g fs b l (λ h k. apart (above (suc g.first.hi) fs (rest_rises m g fs t) j) k)
@@ -486,6 +488,7 @@ rows_sound =
     row₄₂ s (octet {b = a} p q (octet {b = b} r u (octet {b = d} v w (octet {b = g} x y done)))) = from_four a b d g (omega arith) q r (omega arith) v w x y (omega arith) (omega arith)
 
 all_member : (P : Form → Type 0) (fs : List Form) → All P fs → {f : Form} → Memᴰ f fs → P f
+all_member P [] a {f = f} x = elim x [ ]
 all_member P (g ∷ fs) a (Memᴰ.head e) = subst P (sym e) a.0
 all_member P (g ∷ fs) a (Memᴰ.tail i) = all_member P fs a.1 i
 

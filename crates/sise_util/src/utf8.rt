@@ -6,7 +6,7 @@ ghost use Rattle.sise_util.specs.declared.utf8.Character.TheVariants.{Well};
 
 // The character that some bytes begin with: its code point and its number of bytes. Or none that is well formed: then the bytes of the longest start
 // of one, which stand for a broken character: at least one, and 0 only where no byte is.
-#[derive(Drop)]
+#[derive(Clone, Copy)]
 pub enum Character {
     Well { code: u32, len: usize },
     Ill { len: usize },

@@ -5,7 +5,7 @@ ghost use Rattle.sise_util.specs.Atom.{inside, ends_string, kind_of, kind_number
 ghost use Rattle.sise_util.specs.Parts.{after_string, mask_of, PlainTo};
 
 // What the check of an atom answers.
-#[derive(Drop)]
+#[derive(Clone, Copy)]
 pub enum AtomKind {
     // No `"` in it.
     Plain,

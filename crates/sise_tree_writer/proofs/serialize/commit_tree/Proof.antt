@@ -6,7 +6,7 @@ use Rattle.sise_serializer.specs.Serializer.{style}
 use Rattle.sise_tree_writer.specs.Answers.{put_as}
 use Rattle.sise_tree_writer.specs.SerializeTree.{tree_calls, serialize_tree}
 use Rattle.sise_tree_writer.specs.Sizes.{measured_as}
-use Rattle.sise_tree_writer.proofs.Measured.{not_at, tree_kept}
+use Rattle.sise_tree_writer.proofs.Measuring.{not_at, tree_kept}
 use Rattle.sise_tree_writer.proofs.Accepting.{tree_writable, tree_made}
 use Rattle.sise_tree_writer.proofs.Sizes.{can_measure, does_refused, does_changed, does_same}
 use borrow.Author.Rules.{rules}

@@ -1,6 +1,6 @@
 -- What a walk finds in so many bytes is what holds of a buffer of so many bytes.
 -- Assumes nothing.
-use Rattle.sise_tree_writer.proofs.Measured.{node_checked, found_fits, found_off}
+use Rattle.sise_tree_writer.proofs.Measuring.{node_checked, found_fits, found_off}
 use borrow.Author.Rules.{rules}
 use Rattle.sise_tree_writer.proofs.serialize.measure_checked.Statement.{statement}
 use Rattle.sise_tree_writer.proofs.serialize.measure_checked.Tie as tie

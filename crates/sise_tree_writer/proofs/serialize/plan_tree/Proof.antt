@@ -11,7 +11,7 @@ use Rattle.sise_tree_writer.specs.declared.serialize.PutTree.TheVariants.{TextTo
 use Rattle.sise_tree_writer.specs.declared.serialize.TreeWrote.{TreeWrote}
 use Rattle.sise_tree.specs.Decision.{is_some}
 use Rattle.sise_tree.proofs.HeldLaws.{not_tree, tree_held}
-use Rattle.sise_tree_writer.proofs.Measured.{refused_measures, unheld_measures, tree_long, tree_unsound, tree_over, tree_in}
+use Rattle.sise_tree_writer.proofs.Measuring.{refused_measures, unheld_measures, tree_long, tree_unsound, tree_over, tree_in}
 use borrow.Author.Rules.{rules}
 use Rattle.sise_tree_writer.proofs.serialize.plan_tree.Statement.{statement}
 use Rattle.sise_tree_writer.proofs.serialize.plan_tree.Tie as tie

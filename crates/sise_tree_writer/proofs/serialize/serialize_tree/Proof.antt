@@ -4,7 +4,7 @@ use mathlib.Core.Path.{refl, sym, ap, ◌∙◌}
 use Rattle.sise_serializer.specs.Serializer.{style}
 use Rattle.sise_tree_writer.specs.Answers.{put_as}
 use Rattle.sise_tree_writer.specs.SerializeTree.{serialize_tree}
-use Rattle.sise_tree_writer.proofs.Measured.{not_at, tree_kept}
+use Rattle.sise_tree_writer.proofs.Measuring.{not_at, tree_kept}
 use Rattle.sise_tree_writer.proofs.Accepting.{tree_writable, tree_made}
 use borrow.Author.Rules.{rules}
 use Rattle.sise_tree_writer.proofs.serialize.serialize_tree.Statement.{statement}

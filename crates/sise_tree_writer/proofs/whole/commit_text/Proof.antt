@@ -6,7 +6,7 @@ use Rattle.sise_serializer.specs.Serializer.{style, fresh_serializer}
 use Rattle.sise_tree_writer.specs.Answers.{put_as}
 use Rattle.sise_tree_writer.specs.Writing.{text_calls}
 use Rattle.sise_tree_writer.specs.Sizes.{measured_as}
-use Rattle.sise_tree_writer.proofs.Measured.{not_at, tree_kept}
+use Rattle.sise_tree_writer.proofs.Measuring.{not_at, tree_kept}
 use Rattle.sise_tree_writer.proofs.Sizes.{can_measure, does_refused, does_changed, does_same}
 use borrow.Author.Rules.{rules}
 use Rattle.sise_tree_writer.proofs.whole.commit_text.Statement.{statement}

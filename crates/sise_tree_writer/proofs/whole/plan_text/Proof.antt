@@ -3,7 +3,7 @@
 use mathlib.Core.Path.{refl, ap}
 use Rattle.sise_serializer.specs.Serializer.{style, answer_as, fresh_serializer}
 use Rattle.sise_tree_writer.specs.Answers.{put_as}
-use Rattle.sise_tree_writer.proofs.Measured.{not_at}
+use Rattle.sise_tree_writer.proofs.Measuring.{not_at}
 use Rattle.sise_tree_writer.proofs.Walked.{not_put}
 use Rattle.sise_tree_writer.proofs.Finishing.{tree_sound, text_none, text_full, text_fits}
 use borrow.Author.Rules.{rules}

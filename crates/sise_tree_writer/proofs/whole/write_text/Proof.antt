@@ -2,7 +2,7 @@
 -- Assumes nothing.
 use mathlib.Core.Path.{refl, sym, ap, ◌∙◌}
 use Rattle.sise_tree_writer.specs.Answers.{put_as}
-use Rattle.sise_tree_writer.proofs.Measured.{not_at, tree_kept}
+use Rattle.sise_tree_writer.proofs.Measuring.{not_at, tree_kept}
 use borrow.Author.Rules.{rules}
 use Rattle.sise_tree_writer.proofs.whole.write_text.Statement.{statement}
 use Rattle.sise_tree_writer.proofs.whole.write_text.Tie as tie

@@ -1,5 +1,4 @@
 -- A length past the end is none; else it is as in check_atom, of the first bytes.
--- Assumes nothing.
 use mathlib.Core.Path.{◌≡◌, sym, ◌∙◌}
 use mathlib.Core.List.{List}
 use Prim.Native.Nat.{ℕ, ◌≤◌, ◌<◌}
@@ -10,8 +9,9 @@ use borrow.Author.Rules.{rules}
 use borrow.Author.Tests.{le-leb, lt-leb, eqb-true}
 use Rattle.sise_util.specs.Atom.{kind_of, kind_prefix}
 use Rattle.sise_util.specs.declared.util.AtomKind.TheVariants.{No}
-use Rattle.sise_util.proofs.util.check_atom_prefix.Statement.{statement}
-use Rattle.sise_util.proofs.util.check_atom_prefix.Tie as tie
+use Rattle.sise_util.proofs.util.check_atom_prefix.Goals as goal
+
+
 
 past_end : (rest : List ℕ) (n : ℕ) → length rest < n → No ≡ kind_prefix rest n
 unfolding kind_prefix
@@ -21,13 +21,17 @@ inside : (rest : List ℕ) (n : ℕ) → n ≤ length rest → kind_of (take n r
 unfolding kind_prefix
 inside rest n h = sym (rw (le-leb n (length rest) h))
 
-pub check-atom-prefix-spec : {M : Type 1} → statement M
-check-atom-prefix-spec =
-    tie.close
-    (tie.spec
-    (λ c. past_end _ _ c.if1.true)  -- returns
-    (λ c. sym (length-take-le _ _ c.before.if1.false))  -- part
-    (λ c κs. search rules)  -- plain-end-requires
-    (λ c. let within = c.before.before.before.before.if1.false in plain_all c.before.before.plain_end.ensures c.before.if2.true (eqb-true _ _ c.if3.true ∙ sym (length-take-le _ _ within)) ∙ inside _ _ within)  -- returns-2
-    (λ c κs. c.before.plain_end.ensures)  -- kind-from-requires
-    (λ c. c.kind-from.ensures ∙ inside _ _ c.before.before.before.before.if1.false))  -- returns-3
+pub returns-then-rest-len : goal.returns-then-rest-len
+returns-then-rest-len c = past_end _ _ c.if-rest-len.true
+
+pub slice_bounds-atom-end : goal.slice_bounds-atom-end
+slice_bounds-atom-end c = sym (length-take-le _ _ c.if-rest-len.false)
+
+pub returns-then-end-len : goal.returns-then-end-len
+returns-then-end-len c = let within = c.if-rest-len.false in plain_all c.plain_end-end.ensures c.if-end-ne0.true (c.if-end-len.true ∙ sym (length-take-le _ _ within)) ∙ inside _ _ within
+
+pub kind_from-requires : goal.kind_from-requires
+kind_from-requires c = c.plain_end-end.ensures
+
+pub returns : goal.returns
+returns c = c.kind_from.ensures ∙ inside _ _ c.if-rest-len.false

@@ -1,6 +1,5 @@
 -- What the loop keeps: what the test says outside strings of the bytes that are left is what it says of the whole atom, and whether a `"` was met. A string is
 -- passed as one; if it is all, the atom is that string.
--- Assumes nothing.
 use mathlib.Core.Path.{◌≡◌, refl, sym, ap, ◌∙◌}
 use mathlib.Core.Bool.{Bool, true, false, cond, ◌&&◌, ◌||◌, false≢true}
 use mathlib.Core.List.{List, [], ◌∷◌}
@@ -19,14 +18,8 @@ use Rattle.sise_util.proofs.AtomLaws.{outside_cons, plain_passes}
 use Rattle.sise_util.proofs.PlainRuns.{some_atom, quotes_after, no_string}
 use Rattle.sise_util.proofs.KindLaws.{kind_no, kind_plain, kind_string, kind_mixed}
 use borrow.Author.Rules.{rules}
-use Rattle.sise_util.proofs.util.kind_from.Statement.{statement}
-use Rattle.sise_util.proofs.util.kind_from.Tie as tie
-
--- outside strings at `at` of s the test says what it says of s; a quote was met, or is to come, if s has one; and behind its first byte s is no string
-record Due (s : List ℕ) (at : ℕ) (quoted : Bool) : Type 0 where
-  same : outside (drop at s) ≡ is_atom s
-  quotes : has_quote s ≡ quoted || has_quote (drop at s)
-  begun : (at ≡ 0 → ⊥) → is_string s ≡ false
+use Rattle.sise_util.proofs.util.kind_from.Invariants.{Due}
+use Rattle.sise_util.proofs.util.kind_from.Goals as goal
 
 -- a quote is no atom character
 not_quote : (b : ℕ) → is_atom_chr b ≡ true → b ≡ 34 → ⊥
@@ -129,32 +122,32 @@ empty (b ∷ l) h = absurd (omega arith)
 starts : {s : List ℕ} {n : ℕ} → (length s ≡ 0 → ⊥) → PlainTo s n → Due s n false
 starts {s} {n} h p = record { same = plain_passes s n p.chrs ∙ some_atom s h; quotes = quotes_after s n p.chrs; begun = no_string s n p.chrs }
 
-abbrev invariant-loop : tie.invariant-loop
-invariant-loop atom from at₀ quoted₀ at quoted = Due atom at quoted
+pub returns-then-atom-eq0 : goal.returns-then-atom-eq0
+returns-then-atom-eq0 c = empty _ c.if-atom-eq0.true
 
-abbrev decreases-loop : tie.decreases-loop
-decreases-loop atom from at₀ quoted₀ at quoted = length atom - at
+pub loop-at-init : goal.loop-at-init
+loop-at-init c = starts c.if-atom-eq0.false c.requires
 
-pub kind-from-spec : {M : Type 1} → statement M
-kind-from-spec =
-    tie.close
-    (tie.spec
-    invariant-loop
-    decreases-loop
-    (λ c. empty _ c.if1.true)  -- returns
-    (λ c. starts c.if1.false c.before.before.requires)  -- loop-holds
-    (λ c. search rules)  -- shared-slice-read-chr
-    (λ c κs. search rules)  -- is-atom-chr-requires
-    (λ c. search rules)  -- add-at
-    (λ c. search rules)  -- loop-less
-    (λ c. on c.before.before.before.before.loop.invariant (omega arith) (sym c.before.is-atom-chr.ensures ∙ c.if2.true))  -- loop-again
-    (λ c. stop c.before.before.before.before.before.loop.invariant (omega arith) (sym c.before.before.is-atom-chr.ensures ∙ c.before.if2.false) c.if3.true)  -- returns-2
-    (λ c. search rules)  -- add-string-end
-    (λ c κs. search rules)  -- string-end-requires
-    (λ c. open_end c.before.before.before.before.before.before.before.loop.invariant (omega arith) c.before.before.if3.false c.before.string_end.ensures.0 c.if4.true)  -- returns-3
-    (λ c κs. search rules)  -- is-whole-requires
-    (λ c. whole c.before.before.before.before.before.before.before.before.before.loop.invariant (omega arith) c.before.before.before.before.if3.false c.before.before.before.string_end.ensures.0 c.before.before.if4.false (c.before.before.before.string_end.ensures.1.1 c.before.before.if4.false) (sym c.before.is_whole.ensures ∙ c.if5.true))  -- returns-4
-    (λ c. omega (arith, c.before.before.before.string_end.ensures.1.0 c.before.before.if4.false))  -- loop-less-2
-    (λ c. passed c.before.before.before.before.before.before.before.before.before.loop.invariant (omega arith) c.before.before.before.before.if3.false c.before.before.before.string_end.ensures.0 c.before.before.if4.false (c.before.before.before.string_end.ensures.1.1 c.before.before.if4.false) (sym c.before.is_whole.ensures ∙ c.if5.false))  -- loop-again-2
-    (λ c. mixed c.before.before.loop.invariant c.before.loop-test.false c.before.before.before.if1.false c.if6.true)  -- returns-5
-    (λ c. plain c.before.before.loop.invariant c.before.loop-test.false c.before.before.before.if1.false c.if6.false))  -- returns-6
+pub loop-at-preserved-then-is_atom_chr : goal.loop-at-preserved-then-is_atom_chr
+loop-at-preserved-then-is_atom_chr c = on c.loop-at.invariant (omega arith) (sym c.is_atom_chr.ensures ∙ c.if-is_atom_chr.true)
+
+pub returns-then-chr-ne34 : goal.returns-then-chr-ne34
+returns-then-chr-ne34 c = stop c.loop-at.invariant (omega arith) (sym c.is_atom_chr.ensures ∙ c.if-is_atom_chr.false) c.if-chr-ne34.true
+
+pub returns-then-end-eq0 : goal.returns-then-end-eq0
+returns-then-end-eq0 c = open_end c.loop-at.invariant (omega arith) c.if-chr-ne34.false c.string_end-end.ensures.same c.if-end-eq0.true
+
+pub returns-then-is_whole : goal.returns-then-is_whole
+returns-then-is_whole c = whole c.loop-at.invariant (omega arith) c.if-chr-ne34.false c.string_end-end.ensures.same c.if-end-eq0.false (c.string_end-end.ensures.whole c.if-end-eq0.false) (sym c.is_whole.ensures ∙ c.if-is_whole.true)
+
+pub loop-at-smaller : goal.loop-at-smaller
+loop-at-smaller c = omega (arith, c.string_end-end.ensures.on c.if-end-eq0.false)
+
+pub loop-at-preserved : goal.loop-at-preserved
+loop-at-preserved c = passed c.loop-at.invariant (omega arith) c.if-chr-ne34.false c.string_end-end.ensures.same c.if-end-eq0.false (c.string_end-end.ensures.whole c.if-end-eq0.false) (sym c.is_whole.ensures ∙ c.if-is_whole.false)
+
+pub returns-then-quoted : goal.returns-then-quoted
+returns-then-quoted c = mixed c.loop-at.invariant c.loop-at-test.false c.if-atom-eq0.false c.if-quoted.true
+
+pub returns-else-quoted : goal.returns-else-quoted
+returns-else-quoted c = plain c.loop-at.invariant c.loop-at-test.false c.if-atom-eq0.false c.if-quoted.false

@@ -1,5 +1,4 @@
 -- `sise_util::is_escaped_chr` meets its contract: the definition, test by test.
--- Assumes nothing.
 use mathlib.Core.Bool.{true}
 use mathlib.Core.Path.{sym, ◌∙◌}
 use mathlib.Core.Logic.{inl, inr, ⊎_elim}
@@ -9,18 +8,16 @@ use borrow.Author.Tests.{ne_eqb}
 use Rattle.sise_util.specs.Chars.{is_escaped_chr}
 use Rattle.sise_util.proofs.Ranges.{valued}
 use Rattle.sise_util.proofs.AtomLaws.{escaped_chr}
-use Rattle.sise_util.proofs.util.is_escaped_chr.Statement.{statement}
-use Rattle.sise_util.proofs.util.is_escaped_chr.Tie as tie
+use Rattle.sise_util.proofs.util.is_escaped_chr.Goals as goal
 
-pub is-escaped-chr-spec : {M : Type 1} → statement M
-is-escaped-chr-spec =
-    tie.close
-    (tie.spec
-    (λ c κs. search rules)
-    (λ c. ⊎_elim
+pub returns-in-34 : goal.returns-in-34
+returns-in-34 c =
+    ⊎_elim
     (λ e. valued is_escaped_chr true 34 1 (unfold is_escaped_chr in tt) (omega arith) (omega arith))
     (λ e. valued is_escaped_chr true 92 1 (unfold is_escaped_chr in tt) (omega arith) (omega arith))
-    c.match.keys1)
-    (λ c.
-    c.is-atom-string-chr.ensures
-    ∙ sym (escaped_chr _ ∙ rw (ne_eqb _ 34 (λ e. c.before.match.rest.1 (inl e)), ne_eqb _ 92 (λ e. c.before.match.rest.1 (inr e))))))
+    c.in-34.is
+
+pub returns-in_default : goal.returns-in_default
+returns-in_default c =
+    c.is_atom_string_chr.ensures
+    ∙ sym (escaped_chr _ ∙ rw (ne_eqb _ 34 (λ e. c.in_default.in_default-own.rest.1 (inl e)), ne_eqb _ 92 (λ e. c.in_default.in_default-own.rest.1 (inr e))))

@@ -1,5 +1,4 @@
 -- What the loop keeps: what the test says inside the string at `at` is what it says from where the string's inside begins. Each byte is one of its steps.
--- Assumes nothing.
 use mathlib.Core.Path.{◌≡◌, refl, sym, ap, ◌∙◌}
 use mathlib.Core.Bool.{Bool, true, false, cond}
 use mathlib.Core.Logic.{⊎_elim}
@@ -16,13 +15,9 @@ use Rattle.sise_util.specs.Parts.{after_string}
 use Rattle.sise_util.proofs.Lists.{drop-next}
 use Rattle.sise_util.proofs.AtomLaws.{inside_cons, escaped_one}
 use Rattle.sise_util.proofs.KindLaws.{nothing_left}
-use Rattle.sise_util.proofs.util.string_end.Statement.{statement}
-use Rattle.sise_util.proofs.util.string_end.Tie as tie
-
--- inside the string at `at` of s the test says x, and whether the string is the last of it is y
-record Due (x y : Bool) (s : List ℕ) (at : ℕ) : Type 0 where
-  same : inside (drop at s) ≡ x
-  ends : ends_string (drop at s) ≡ y
+use Rattle.sise_util.proofs.util.string_end.Invariants.{Due}
+use Rattle.sise_util.proofs.util.string_end.Goals as goal
+use Rattle.sise_util.proofs.util.string_end.Goals.{then-atom-at-via-then-atom-at, then-atom-at-via-else-atom-at+then-not-is_escaped_chr}
 
 -- the steps of the test at the byte b, after which l is left
 module _ {x y : Bool} {s : List ℕ} {at : ℕ} (d : Due x y s at) (h : at < length s) where
@@ -77,36 +72,44 @@ unclosed : {x y : Bool} {s : List ℕ} {at : ℕ} → Due x y s at → length s 
 unfolding after_string inside
 unclosed {s = s} d h = sym (ap inside (drop_of_length-le s h)) ∙ d.same
 
-abbrev invariant-loop : tie.invariant-loop
-invariant-loop atom from at₀ at = Due (inside (drop from atom)) (ends_string (drop from atom)) atom at × (from ≤ at)
+pub loop-at-init : goal.loop-at-init
+loop-at-init c = (record { same = refl; ends = refl }, omega arith)
 
-abbrev decreases-loop : tie.decreases-loop
-decreases-loop atom from at₀ at = length atom - at
+pub returns-then-chr-eq34 : goal.returns-then-chr-eq34
+returns-then-chr-eq34 c = 
+    let i = c.loop-at.invariant in
+    record { same = leave i.0 (omega arith) c.if-chr-eq34.true; on = λ z. omega (arith, i.1); whole = λ z. leave_last i.0 (omega arith) c.if-chr-eq34.true }
 
-pub string-end-spec : {M : Type 1} → statement M
-string-end-spec =
-    tie.close
-    (tie.spec
-    invariant-loop
-    decreases-loop
-    (λ c. (record { same = refl; ends = refl }, omega arith))  -- loop-holds
-    (λ c. search rules)  -- shared-slice-read-chr
-    (λ c. search rules)  -- add-at
-    (λ c. let i = c.before.before.before.loop.invariant in (leave i.0 (omega arith) c.if1.true, (λ z. omega (arith, i.1), λ z. leave_last i.0 (omega arith) c.if1.true)))  -- returns
-    (λ c. search rules)  -- shared-slice-read-is-escaped-chr
-    (λ c κs. search rules)  -- is-escaped-chr-requires
-    (λ c. (
-      ⊎_elim
-          (λ w. escape_end c.before.before.before.before.before.loop.invariant.0 (omega arith) c.before.before.if1.false c.before.if2.true w.taken)
-          (λ w. escape_stop c.before.before.before.before.before.loop.invariant.0 (omega arith) c.before.before.if1.false c.before.if2.true w.0.left (sym w.2.ensures ∙ not-true _ w.3.taken))
-          c.if3.branch,
-      (λ z. absurd (z refl), λ z. absurd (z refl)),
-    ))  -- returns-2
-    (λ c. search rules)  -- add-at-2
-    (λ c. search rules)  -- loop-less
-    (λ c. let i = c.before.before.before.before.before.before.before.before.loop.invariant in (escape_on i.0 (omega arith) c.before.before.before.before.before.if1.false c.before.before.before.before.if2.true c.before.before.before.if3.false (sym c.before.is-escaped-chr.ensures ∙ not-false _ c.if4.false), omega (arith, i.1)))  -- loop-again
-    (λ c κs. search rules)  -- is-atom-string-chr-requires
-    (λ c. (stop c.before.before.before.before.before.before.loop.invariant.0 (omega arith) c.before.before.before.if1.false c.before.before.if2.false (sym c.before.is-atom-string-chr.ensures ∙ not-true _ c.if5.true), (λ z. absurd (z refl), λ z. absurd (z refl))))  -- returns-3
-    (λ c. search rules)  -- loop-less-2
-    (λ c. let i = c.before.before.before.before.before.before.loop.invariant in (on i.0 (omega arith) c.before.before.before.if1.false c.before.before.if2.false (sym c.before.is-atom-string-chr.ensures ∙ not-false _ c.if5.false), omega (arith, i.1)))  -- loop-again-2
-    (λ c. (unclosed c.before.loop.invariant.0 c.loop-test.false, (λ z. absurd (z refl), λ z. absurd (z refl)))))  -- returns-4
+pub returns-then-atom-at : goal.returns-then-atom-at
+returns-then-atom-at c =
+    record {
+      same = elim c.then-atom-at.branch [
+        | then-atom-at-via-then-atom-at w ↦ escape_end c.loop-at.invariant.0 (omega arith) c.if-chr-eq34.false c.if-chr-eq92.true w.if-atom-at.true
+        | then-atom-at-via-else-atom-at+then-not-is_escaped_chr w ↦
+            escape_stop c.loop-at.invariant.0 (omega arith) c.if-chr-eq34.false c.if-chr-eq92.true w.if-atom-at.false (sym w.is_escaped_chr.ensures ∙ w.if-not-is_escaped_chr.true)
+      ];
+      on = λ z. absurd (z refl);
+      whole = λ z. absurd (z refl);
+    }
+
+pub loop-at-preserved-then-chr-eq92 : goal.loop-at-preserved-then-chr-eq92
+loop-at-preserved-then-chr-eq92 c = let i = c.loop-at.invariant in (escape_on i.0 (omega arith) c.if-chr-eq34.false c.if-chr-eq92.true c.if-atom-at.false (sym c.is_escaped_chr.ensures ∙ c.if-not-is_escaped_chr.false), omega (arith, i.1))
+
+pub returns-then-not-is_atom_string_chr : goal.returns-then-not-is_atom_string_chr
+returns-then-not-is_atom_string_chr c =
+    record {
+      same = stop c.loop-at.invariant.0 (omega arith) c.if-chr-eq34.false c.if-chr-eq92.false (sym c.is_atom_string_chr.ensures ∙ c.if-not-is_atom_string_chr.true);
+      on = λ z. absurd (z refl);
+      whole = λ z. absurd (z refl);
+    }
+
+pub loop-at-preserved : goal.loop-at-preserved
+loop-at-preserved c = let i = c.loop-at.invariant in (on i.0 (omega arith) c.if-chr-eq34.false c.if-chr-eq92.false (sym c.is_atom_string_chr.ensures ∙ c.if-not-is_atom_string_chr.false), omega (arith, i.1))
+
+pub returns : goal.returns
+returns c =
+    record {
+      same = unclosed c.loop-at.invariant.0 c.loop-at-test.false;
+      on = λ z. absurd (z refl);
+      whole = λ z. absurd (z refl);
+    }
