@@ -1,5 +1,4 @@
 -- `sise_parser::Reader::is_sound` meets its contract: the definition's three tests, one after the other.
--- Assumes nothing.
 use mathlib.Core.Path.{◌≡◌, sym, ◌∙◌}
 use mathlib.Core.Bool.{false}
 use mathlib.Core.Logic.{⊎_elim}
@@ -8,8 +7,10 @@ use borrow.Author.Rules.{rules}
 use borrow.Author.Tests.{le-leb, lt-leb, ltb-true, ltb-false}
 use Rattle.sise_parser.specs.Reader.{lists_fit, is_sound}
 use Rattle.sise_parser.specs.declared.reader.Reader.{Reader}
-use Rattle.sise_parser.proofs.reader.Reader.is_sound.Statement.{statement}
-use Rattle.sise_parser.proofs.reader.Reader.is_sound.Tie as tie
+use Rattle.sise_parser.proofs.reader.Reader.is_sound.Goals as goal
+use Rattle.sise_parser.proofs.reader.Reader.is_sound.Goals.{then-len-self-via-then-len-self, then-len-self-via-else-len-self+then-self}
+
+
 
 past_end : (n : ℕ) (r : Reader) → n < r.position → false ≡ is_sound n r
 unfolding is_sound
@@ -23,10 +24,12 @@ by_phase : (n : ℕ) (r : Reader) → r.position ≤ n → r.lists ≤ r.positio
 unfolding is_sound
 by_phase n r h k = sym (rw (le-leb r.position n h, le-leb r.lists r.position k))
 
-pub is-sound-spec : {M : Type 1} → statement M
-is-sound-spec =
-    tie.close
-    (tie.spec
-    (λ c. ⊎_elim (λ w. past_end _ c.before.before.args.self w.taken) (λ w. too_many _ c.before.before.args.self w.0.left (ltb-true _ _ w.2.taken)) c.if1.branch)
-    (λ c κs. search rules)
-    (λ c. c.lists-fit.ensures ∙ by_phase _ c.before.before.before.before.before.args.self c.before.before.before.if1.false (ltb-false _ _ c.before.if2.false)))
+pub returns-then-len-self : goal.returns-then-len-self
+returns-then-len-self c = 
+    elim c.then-len-self.branch [
+      | then-len-self-via-then-len-self w ↦ past_end _ c.args.self w.if-len-self.true
+      | then-len-self-via-else-len-self+then-self w ↦ too_many _ c.args.self w.if-len-self.false w.if-self.true
+    ]
+
+pub returns : goal.returns
+returns c = c.lists_fit.ensures ∙ by_phase _ c.args.self c.if-len-self.false c.if-self.false

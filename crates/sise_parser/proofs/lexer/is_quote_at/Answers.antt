@@ -1,5 +1,4 @@
 -- Past the end there is no byte, and the definition has 0 there.
--- Assumes nothing.
 use mathlib.Core.Path.{◌≡◌, sym, ap, ◌∙◌}
 use mathlib.Core.List.{List}
 use Prim.Native.Nat.{ℕ, ◌≤◌}
@@ -7,11 +6,12 @@ use lib.Dec.{eqb, ltb}
 use lib.ListN.{length, get_or, get_or-eq_default}
 use borrow.Author.Rules.{rules}
 use borrow.Author.Tests.{le-ltb}
-use Rattle.sise_parser.proofs.lexer.is_quote_at.Statement.{statement}
-use Rattle.sise_parser.proofs.lexer.is_quote_at.Tie as tie
+use Rattle.sise_parser.proofs.lexer.is_quote_at.Goals as goal
+
+
 
 past_end : (text : List ℕ) (p : ℕ) → length text ≤ p → ltb p (length text) ≡ eqb (get_or text p 0) 34
 past_end text p h = le-ltb p (length text) h ∙ ap (λ (b : ℕ). eqb b 34) (sym (get_or-eq_default text 0 h))
 
-pub is-quote-at-spec : {M : Type 1} → statement M
-is-quote-at-spec = tie.close (tie.spec (λ c. search rules) (λ c. search rules) (λ c. past_end c.before.args.text.now _ c.if1.false))
+pub returns-else-at-text : goal.returns-else-at-text
+returns-else-at-text c = past_end c.args.text.now _ c.if-at-text.false

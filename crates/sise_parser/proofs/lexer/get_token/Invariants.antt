@@ -1,0 +1,38 @@
+-- `sise_parser::get_token` meets its contract. What the two loops keep: what the definition says from the place where the call began is what it says from
+-- here, between tokens or in a comment.
+use mathlib.Core.Path.{◌≡◌, refl, sym, ◌∙◌}
+use mathlib.Core.Logic.{⊎_elim}
+use mathlib.Core.List.{List}
+use Prim.Native.Nat.{ℕ, ◌-◌, ◌≤◌}
+use native.Mathlib.Omega.{arith}
+use native.Mathlib.Nat.{le_refl}
+use lib.ListN.{length, drop}
+use borrow.Author.Rules.{rules}
+use borrow.Author.Tests.{eqb-true, eqb-false}
+use Rattle.sise_parser.specs.Lexer.{Lexed, between, comment}
+use Rattle.sise_parser.proofs.Steps.{between_end, comment_end, comment_line_end, comment_wrong, comment_on}
+use Rattle.sise_parser.proofs.ByteSteps.{between_space, between_tab, between_comment, between_open, between_close, between_atom, between_string, between_wrong}
+use Rattle.sise_parser.proofs.lexer.get_token.Given as goal
+
+
+
+-- x is due at `at`, between tokens
+pub record Between (x : Lexed) (text : List ℕ) (at : ℕ) : Type 0 where
+  pub same : x ≡ between (drop at text) at
+
+-- x is due at `at`, in a comment that began at or before it
+pub record InComment (x : Lexed) (text : List ℕ) (begun at : ℕ) : Type 0 where
+  pub after : begun ≤ at
+  pub same : x ≡ comment (drop at text) at
+
+abbrev pub invariant-comment : goal.invariant-comment
+invariant-comment l = InComment (between (drop l.from l.text) l.from) l.text l.initial.at l.at
+
+abbrev pub invariant-token : goal.invariant-token
+invariant-token l = Between (between (drop l.from l.text) l.from) l.text l.at
+
+abbrev pub decreases-comment : goal.decreases-comment
+decreases-comment l = length l.text - l.at
+
+abbrev pub decreases-token : goal.decreases-token
+decreases-token l = length l.text - l.at
