@@ -1,0 +1,29 @@
+-- The indentations right behind the line break: two pastings in a row are one.
+use native.Mathlib.Omega.{arith}
+use mathlib.Core.Path.{◌∙◌}
+use lib.ListN.{length-append}
+use borrow.Author.Rules.{rules}
+use Rattle.sise_serializer.specs.Bytes.{repeat}
+use Rattle.sise_serializer.proofs.Bytes.{layout_length, pasted_more}
+use Rattle.sise_serializer.proofs.buffer.write_line.Goals as goal
+
+pub copy-requires : goal.copy-requires
+copy-requires c =
+    let a = c.args in
+    omega (arith, layout_length a.line_break.now a.times a.indentation.now)
+
+pub copies-requires : goal.copies-requires
+copies-requires c =
+    let a = c.args in
+    omega (arith, layout_length a.line_break.now a.times a.indentation.now)
+
+pub returns : goal.returns
+returns c =
+    let a = c.args in
+    let text = a.line_break.now in
+    let steps = repeat a.times a.indentation.now in
+    let size = length-append text steps in
+    record {
+      value = c.copies.ensures.value ∙ omega (arith, size);
+      buf_after = c.copies.ensures.buf_after ∙ rw c.copy.ensures (pasted_more a.buf.now a.at text (omega (arith, size)) steps);
+    }

@@ -1,0 +1,24 @@
+-- The words are put behind those of the open lists, and the innermost list counts the atom.
+use mathlib.Core.Path.{refl}
+use native.Mathlib.Omega.{arith}
+use Rattle.sise_tree.proofs.FillingTurns.{atom_ends, atom_room, atom_attachable, atom_turns}
+use borrow.Author.Rules.{rules}
+use Rattle.sise_tree.proofs.parse.put_atom.Goals as goal
+
+pub overflow_sub-len : goal.overflow_sub-len
+overflow_sub-len c = let (text, its, can) = c.requires in let (w₀, f, h, u) = can in (atom_ends h refl u).0
+
+pub overflow_cast-pos : goal.overflow_cast-pos
+overflow_cast-pos c = let (text, its, can) = c.requires in let (w₀, f, h, u) = can in let z = atom_ends h refl u in omega arith
+
+pub overflow_cast-len : goal.overflow_cast-len
+overflow_cast-len c = let (text, its, can) = c.requires in let (w₀, f, h, u) = can in let z = atom_ends h refl u in omega arith
+
+pub put-requires : goal.put-requires
+put-requires c = let (text, its, can) = c.requires in let (w₀, f, h, u) = can in let z = (atom_room h refl u).0 in omega (arith, c.wide.ensures.same)
+
+pub count_child-requires : goal.count_child-requires
+count_child-requires c = let (text, its, can) = c.requires in let (w₀, f, h, u) = can in (f, _, _, atom_attachable h refl u c.wide.ensures.same its c.put.ensures)
+
+pub returns : goal.returns
+returns c = λ text its w₀ f h u. atom_turns h refl u c.wide.ensures.same its c.put.ensures c.count_child.ensures

@@ -1,0 +1,27 @@
+-- Each node of span 1 that is no list leaves one node less to step over, and one place on: what is left has the whole's answer.
+use Prim.Native.Nat.{ℕ, ◌+◌, ◌-◌, ◌≤◌, ◌<◌, ◌/◌}
+use native.Mathlib.Omega.{arith}
+use mathlib.Core.Path.{◌≡◌, refl, sym, ◌∙◌}
+use mathlib.Core.Bool.{Bool, false}
+use mathlib.Core.List.{List}
+use lib.Dec.{eqb}
+use lib.ListN.{length}
+use borrow.Author.Tests.{ltb-true, eqb-false}
+use Rattle.sise_tree.specs.Tree.{kind, span}
+use Rattle.sise_tree.specs.Parts.{SameFrom}
+use Rattle.sise_tree.proofs.LocalSteps.{linked_none, fills_step}
+use Rattle.sise_tree.proofs.tree.singles.Given as goal
+
+
+
+-- `run` nodes are counted
+pub record Counted (words : List ℕ) (left at end run : ℕ) : Type 0 where
+  pub same : SameFrom words left at end run
+  pub few : run ≤ left
+  pub within : at + run ≤ end
+
+abbrev pub invariant-loop-run : goal.invariant-loop-run
+invariant-loop-run l = Counted l.table l.left l.at l.end l.run
+
+abbrev pub decreases-loop-run : goal.decreases-loop-run
+decreases-loop-run l = l.left - l.run
