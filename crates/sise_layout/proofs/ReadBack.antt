@@ -39,6 +39,8 @@ is_over Done = true
 not_going : (f : Phase) → Going (phase_of f) → is_over f ≡ false
 not_going Beginning g = refl
 not_going Writing g = refl
+not_going Finished g = elim g [ ]
+not_going Done g = elim g [ ]
 
 over_phase : (f : Phase) → is_over f ≡ true → phase_of f ≡ Finishing
 over_phase Beginning h = absurd (false≢true h)

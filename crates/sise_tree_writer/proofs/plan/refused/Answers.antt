@@ -1,0 +1,6 @@
+-- The record made anew is the record.
+use borrow.Author.Rules.{rules}
+use Rattle.sise_tree_writer.proofs.plan.refused.Goals as goal
+
+pub returns : goal.returns
+returns c = rw c.remade.ensures
