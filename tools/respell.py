@@ -115,7 +115,8 @@ def respell_line(line, turned, comment):
 
 def main():
     turned = table()
-    of_code = {k: v for k, v in turned.items() if "-" not in k}
+    # In src/ only clauses speak of definitions, and functions keep their names.
+    of_code = {k: v for k, v in turned.items() if "-" not in k and re.search(r"[A-Z]", k)}
     n = 0
     for path in sorted(glob.glob("crates/**/*.antt", recursive=True) + glob.glob("crates/*/src/**/*.rt", recursive=True)):
         if "/out/" in path:

@@ -71,7 +71,7 @@ fn phase_word(phase: Phase) -> u64
     }
 }
 
-fn flag_word_lem(flag: bool) -> u64
+fn flag_word(flag: bool) -> u64
     ensures { result ≡ flag_word flag }
 {
     if flag { 1 } else { 0 }
@@ -86,7 +86,7 @@ fn put_writer(w: Serializer, words: &mut WriterWords)
         phase_word(phase),
         w.lists as u64,
         w.broken as u64,
-        flag_word_lem(w.list_beginning),
+        flag_word(w.list_beginning),
         w.line_len as u64,
         w.spaces as u64,
         w.breaks as u64,

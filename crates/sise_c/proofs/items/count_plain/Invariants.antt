@@ -1,0 +1,34 @@
+-- Each plain token is the item that next_item would give there, so the counting goes on by that item's law.
+use Prim.Native.Nat.{ℕ, ◌+◌, ◌-◌, ◌≤◌, ◌<◌}
+use native.Mathlib.Omega.{arith}
+use mathlib.Core.Path.{◌≡◌, refl, sym, ◌∙◌}
+use mathlib.Core.List.{List}
+use lib.ListN.{length, drop}
+use borrow.Author.Rules.{rules}
+use borrow.Author.Tests.{eqb-false}
+use Rattle.sise_parser.specs.Lexer.{found, opening, closing, atom, between}
+use Rattle.sise_parser.proofs.ByteSteps.{between_open, between_close}
+use Rattle.sise_parser.proofs.Calls.{sound_parts}
+use Rattle.sise_c.specs.Passes.{CanCount, CountsOn}
+use Rattle.sise_c.specs.declared.items.Place.{Place}
+use Rattle.sise_tree.proofs.PlainItems.{plain_atom, plain_start, plain_end}
+use Rattle.sise_c.proofs.ItemLaws.{counts_more}
+use Rattle.sise_c.proofs.items.count_plain.Given as goal
+
+
+
+abbrev pub place : ℕ → ℕ → ℕ → Place
+place p d n = record { position = p; lists = d; items = n }
+
+-- what was counted at first is counted on to here, inside a list
+pub record Run (text : List ℕ) (b : Place) (p d n : ℕ) : Type 0 where
+  pub some : d ≡ 0 → ⊥
+  pub deep : d ≤ p
+  pub early : n ≤ p
+  pub on : CountsOn text b (place p d n)
+
+abbrev pub invariant-loop-position : goal.invariant-loop-position
+invariant-loop-position l = Run l.text (place l.initial.position l.initial.lists l.initial.items) l.position l.lists l.items
+
+abbrev pub decreases-loop-position : goal.decreases-loop-position
+decreases-loop-position l = length l.text - l.position
