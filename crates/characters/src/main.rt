@@ -7,7 +7,6 @@
 #![tactic(auto)]
 ghost use Rattle.std.specs.Prelude.{◌<◌};
 
-use libc::STDIN_FILENO;
 use lines::Block;
 use sise_util::classes::class_of;
 use sise_util::{AtomKind, Character};
@@ -163,7 +162,7 @@ fn main() {
     let mut out = io::buffer();
     let at = run_bytes(&mut out, 0);
     let mut text = io::buffer();
-    let n = io::read_full(STDIN_FILENO, &mut text);
+    let n = io::read_full(lines::STDIN, &mut text);
     let at = run_cases(&mut out, at, &text[..n]);
     lines::flush(&out, at);
 }

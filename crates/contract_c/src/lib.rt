@@ -1,6 +1,7 @@
 // Every exported call of sise_c that does a whole job, by its name without `sise_`, under the contract that it has there and with a body that only calls it: the promises of the
 // library on one page. An edit of must-fail/ puts a wrong program in the place of a body, and the contract has to refuse it.
 #![tactic(auto)]
+
 ghost use Rattle.std.specs.Prelude.{◌≡◌, [], ◌∷◌, length};
 ghost use Rattle.sise_util.specs.Atom.{is_atom, kind_of, kind_number};
 ghost use Rattle.sise_serializer.specs.Serializer.{style};

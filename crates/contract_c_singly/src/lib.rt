@@ -1,6 +1,7 @@
 // The reader's and the writer's calls of sise_c, one by one over the words of a record, by their names without `sise_`, each under the contract that it has there and
 // with a body that only calls it. An edit of must-fail/ puts a wrong program in the place of a body, and the contract has to refuse it.
 #![tactic(auto)]
+
 ghost use Rattle.std.specs.Prelude.{◌≡◌};
 ghost use Rattle.sise_serializer.specs.Calls.{put_atom_call, begin_list_call, end_list_call, finish_call};
 ghost use Rattle.sise_serializer.specs.Serializer.{style};

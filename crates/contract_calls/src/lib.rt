@@ -2,6 +2,7 @@
 // the promises of the library on one page, with contract_writer. An edit of must-fail/ puts a wrong program in the place of a body, and the contract has
 // to refuse it.
 #![tactic(auto)]
+
 ghost use Rattle.std.specs.Prelude.{◌≡◌, ◌++◌, ◌+◌, ◌*◌};
 ghost use Rattle.sise_serializer.specs.Bytes.{pasted_if, repeat};
 ghost use Rattle.sise_serializer.specs.Parts.{spot_of};

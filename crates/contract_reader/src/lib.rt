@@ -2,6 +2,7 @@
 // library on one page. An edit of must-fail/ puts a wrong program in the place of a body, and the contract has to refuse it. A function with a Parser,
 // which holds a reference, is proved by hand: the wrong programs of its three calls stand in sise_parser.
 #![tactic(auto)]
+
 ghost use Rattle.std.specs.Prelude.{◌≡◌, ◌≤◌, eqb, drop, get_or};
 ghost use Rattle.sise_parser.specs.Refusals.{refusal_of};
 ghost use Rattle.sise_parser.specs.Lexer.{between};

@@ -1,6 +1,7 @@
 // Every public call of sise_tree, under the contract that it has there and with a body that only calls it: the promises of the library on one page. An
 // edit of must-fail/ puts a wrong program in the place of a body, and the contract has to refuse it.
 #![tactic(auto)]
+
 ghost use Rattle.std.specs.Prelude.{◌≡◌, ◌<◌, ◌^◌};
 ghost use Rattle.sise_tree.specs.Decision.{decide};
 ghost use Rattle.sise_tree.specs.Held.{held_as};

@@ -1,6 +1,7 @@
 // Every public call of sise_util, under the contract that it has there and with a body that only calls it: the promises of the library on one page. An
 // edit of must-fail/ puts a wrong program in the place of a body, and the contract has to refuse it.
 #![tactic(auto)]
+
 ghost use Rattle.std.specs.Prelude.{◌≡◌, drop};
 ghost use Rattle.sise_util.specs.Chars.{is_atom_chr, is_string_chr};
 ghost use Rattle.sise_util.specs.Atom.{kind_of, kind_prefix, kind_number, is_kind};

@@ -2,6 +2,7 @@
 // calls it: the promises of the library on one page, with contract_calls. An edit of must-fail/ puts a wrong program in the place of a body, and the
 // contract has to refuse it.
 #![tactic(auto)]
+
 ghost use Rattle.std.specs.Prelude.{◌≡◌};
 ghost use Rattle.sise_serializer.specs.Serializer.{fresh_serializer, style, is_sound, answer_as, number_of, phase_after};
 ghost use Rattle.sise_serializer.specs.Calls.{Does, put_atom_call, begin_list_call, end_list_call, finish_call};

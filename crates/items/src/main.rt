@@ -6,7 +6,6 @@ ghost use Rattle.std.specs.Prelude.{◌≡◌};
 ghost use Rattle.lines.specs.Put.{output, put};
 ghost use Rattle.items.specs.Last.{refused_line, last_line};
 
-use libc::STDIN_FILENO;
 use lines::{Block, put_item, put_number};
 use sise_parser::{Answer, Finished, ParseError, Phase, Reader};
 
@@ -60,9 +59,9 @@ fn print_items(text: &[u8]) {
 
 fn main() {
     let mut text = io::large_buffer();
-    let n = io::read_full(STDIN_FILENO, &mut text);
+    let n = io::read_full(lines::STDIN, &mut text);
     let mut more = [0u8; 1];
-    if n == 65536 && 0 < io::read_full(STDIN_FILENO, &mut more) {
+    if n == 65536 && 0 < io::read_full(lines::STDIN, &mut more) {
         let mut out = io::buffer();
         let at = lines::put_bytes(&mut out, 0, b"long\n");
         lines::flush(&out, at);

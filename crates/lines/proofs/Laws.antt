@@ -38,7 +38,9 @@ tenth n k w =
 
 pub spelled : (k f n : ℕ) → suc k ≤ f → IsDigitCount 10 1 n (suc k) → last_digits 10 (suc k) n ≡ decimal_of f n
 unfolding decimal_of
+spelled zero zero n h w = elim h [ ]
 spelled zero (suc f) n h w = ap (λ (b : Bool). cond b [] (decimal_of f (n / 10)) ++ (hex_digit_ascii (n % 10) ∷ [])) (sym (lt-ltb n 10 w.1))
+spelled (suc k) zero n h w = elim h [ ]
 spelled (suc k) (suc f) n h w =
     ap (λ (s : List ℕ). s ++ (hex_digit_ascii (n % 10) ∷ [])) (spelled k f (n / 10) (omega arith) (tenth n k w))
     ∙ ap (λ (b : Bool). cond b [] (decimal_of f (n / 10)) ++ (hex_digit_ascii (n % 10) ∷ [])) (sym (le-ltb n 10 (omega (arith, at_least n k w, one-le-pow k 10 (zero-lt-suc 9)))))

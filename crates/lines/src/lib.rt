@@ -6,14 +6,18 @@ ghost use Rattle.std.specs.Prelude.{◌≡◌, [], ◌∷◌};
 ghost use Rattle.lines.specs.Put.{output, put, decimal, number};
 
 pub use item::put_item;
-use libc::STDOUT_FILENO;
+
+// The standard streams by their numbers.
+pub const STDIN: i32 = 0;
+
+pub const STDOUT: i32 = 1;
 
 // A program has one, and the place behind the bytes in it that wait to be written.
 pub type Block = [u8; 4096];
 
 fn write_part(out: &[u8], at: usize) {
     if at <= out.len() {
-        io::write_all(STDOUT_FILENO, &out[..at]);
+        io::write_all(STDOUT, &out[..at]);
     }
 }
 

@@ -44,7 +44,6 @@ mod writer_case;
 ghost use Rattle.std.specs.Prelude.{◌<◌, length};
 ghost use Rattle.script.specs.Script.{Onward};
 
-use libc::STDIN_FILENO;
 use lines::Block;
 use script::Ran;
 
@@ -82,7 +81,7 @@ fn run_script(script: &[u8]) {
 
 // Runs the script on standard input, which is read into the buffer.
 fn run_input(script: &mut [u8]) {
-    let n = io::read_full(STDIN_FILENO, script);
+    let n = io::read_full(lines::STDIN, script);
     run_script(&script[..n]);
 }
 

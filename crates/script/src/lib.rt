@@ -1,5 +1,6 @@
 // The parts of a script: replay's main file says what a script is. A part that cannot be read is malformed; one that is read lies in the script.
 #![tactic(auto)]
+
 mod tree;
 
 ghost use Rattle.std.specs.Prelude.{◌≡◌, length};

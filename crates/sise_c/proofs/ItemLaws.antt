@@ -8,7 +8,7 @@ use mathlib.Core.Bool.{true}
 use mathlib.Core.List.{List, [], ◌∷◌}
 use lib.ListN.{length}
 use Rattle.sise_parser.specs.Refusals.{Refusal, refusal_of}
-use Rattle.sise_parser.specs.Reader.{reader, fresh_reader, is_sound, item, refused, Next, next, next_item}
+use Rattle.sise_parser.specs.Reader.{fresh_reader, is_sound, item, refused, Next, next, next_item}
 use Rattle.sise_parser.specs.Meaning.{answer_as, next_as}
 use Rattle.sise_parser.specs.declared.error.ParseError.{ParseError}
 use Rattle.sise_parser.specs.declared.reader.Answer.{Answer}

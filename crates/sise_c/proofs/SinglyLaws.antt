@@ -13,7 +13,6 @@ use borrow.Author.Tests.{leb-true, le-leb, lt-leb}
 use Rattle.sise_util.specs.Atom.{is_atom}
 use Rattle.sise_util.proofs.Ranges.{split}
 use Rattle.sise_parser.specs.Refusals.{Refusal, refusal_of}
-use Rattle.sise_parser.specs.Reader as reader
 use Rattle.sise_parser.specs.Reader.{next_item, finish_reading}
 use Rattle.sise_parser.specs.Meaning.{answer_as, next_as, finished_as}
 use Rattle.sise_parser.specs.declared.error.ParseError.{ParseError}

@@ -2,6 +2,7 @@
 // memory that is lent to it. The result is 0 or document 01's number of the refusal; `values` are what is answered and 0, or the refusal's place and
 // code point. On a refusal nothing else is written.
 #![tactic(auto)]
+
 mod items;
 mod reading;
 mod report;

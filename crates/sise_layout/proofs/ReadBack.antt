@@ -10,7 +10,6 @@ use Rattle.sise_util.proofs.Ranges.{split}
 use Rattle.sise_parser.specs.Lexer.{found, between}
 use Rattle.sise_parser.specs.Reader as parser
 use Rattle.sise_parser.specs.declared.reader.Reader.{Reader}
-use Rattle.sise_parser.specs.declared.reader.Phase as reader_phase
 use Rattle.sise_parser.specs.declared.reader.Phase.TheVariants.{Finishing}
 use Rattle.sise_serializer.specs.Serializer.{Style, Written, Piece, last, lists_fit, fresh_serializer}
 use Rattle.sise_serializer.specs.declared.serializer.Phase.{Phase}

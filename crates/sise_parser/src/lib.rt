@@ -1,5 +1,6 @@
 // The reader (parser.rs of the crate sise 0.8.0): the items of a SISE text, one a call.
 #![tactic(auto)]
+
 mod error;
 mod lexer;
 mod parser;

@@ -1,7 +1,7 @@
 -- What is left of a list of calls while it runs: each call's words are taken from the front, and its answer's word is set at its index, so what running
 -- the rest leaves stays the same.
 -- Assumes nothing.
-use Prim.Native.Nat.{ℕ, zero, suc, ◌+◌, ◌-◌, ◌^◌, ◌≤◌, ◌<◌}
+use Prim.Native.Nat.{ℕ, suc, ◌+◌, ◌-◌, ◌^◌, ◌≤◌, ◌<◌}
 use native.Mathlib.Nat.{add-zero, zero-add}
 use native.Mathlib.Omega.{arith}
 use mathlib.Core.Path.{◌≡◌, refl, sym, ap, ◌∙◌, subst}
@@ -15,7 +15,7 @@ use types.Run.{OneOf}
 use denote.Enum.Declared.{tag_of}
 use borrow.Author.Tests.{leb-true, leb-false, le-leb, lt-leb, eq-eqb, ne_eqb}
 use Rattle.sise_parser.specs.Reader.{part_of}
-use Rattle.sise_util.proofs.Ranges.{split, and_first, and_second}
+use Rattle.sise_util.proofs.Ranges.{and_first, and_second}
 use Rattle.sise_serializer.specs.Bytes.{pasted}
 use Rattle.sise_serializer.specs.Serializer.{Style, answer_as, number_of, fresh_serializer, is_sound}
 use Rattle.sise_serializer.specs.declared.calls.Ran.{Ran}

@@ -1,6 +1,6 @@
 -- Whole lists of the writer's calls (document 01, "serializer.rs: the writer": "Demand 3 speaks of lists of the calls ...").
 -- Assumes nothing.
-use Rattle.std.specs.Prelude.{ℕ, ◌+◌, ◌-◌, ◌^◌, Bool, true, false, List, [], ◌∷◌, ◌++◌, map, length}
+use Rattle.std.specs.Prelude.{ℕ, ◌-◌, ◌^◌, Bool, true, false, List, [], ◌∷◌, ◌++◌, map, length}
 use Rattle.sise_serializer.specs.Bytes.{pasted}
 use Rattle.sise_serializer.specs.Serializer.{Style, Answer, accepted, refused, Written, DoesAs, put_atom, begin_list, end_list, finish_writing, fresh_serializer}
 use Rattle.sise_serializer.specs.declared.serializer.Serializer.{Serializer}

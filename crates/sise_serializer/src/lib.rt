@@ -1,5 +1,6 @@
 // The writer (serializer.rs of the crate sise 0.8.0): a SISE text, one item a call, into a lent buffer; or a whole list of calls at once.
 #![tactic(auto)]
+
 mod buffer;
 mod calls;
 mod serializer;

@@ -1,6 +1,7 @@
 // The reader's and the writer's calls made one at a time, for a program that measures them. It is a library of its own: where two callers share the steps,
 // the compiler joins them into neither, and both are slower.
 #![tactic(auto)]
+
 ghost use Rattle.std.specs.Prelude.{◌≡◌, ◌+◌, ◌≤◌, length};
 ghost use Rattle.sise_serializer.specs.Serializer.{style};
 ghost use Rattle.sise_serializer.specs.Calls.{Does};

@@ -11,7 +11,7 @@ use Rattle.sise_parser.specs.declared.reader.Reader.{Reader}
 use Rattle.sise_parser.specs.declared.reader.ParsedItem.{ParsedItem}
 use Rattle.sise_parser.specs.declared.reader.ParsedItem.TheVariants.{Atom, ListStart, ListEnd}
 use Rattle.sise_tree.specs.Tree.{kind_at, Node, atom, list, size}
-use Rattle.sise_tree.specs.ParseTree.{Frames, top, ◌▹◌, Stage, inside, whole, closes, attach, close, turn, ReadNode, got, read_stage, filled_with}
+use Rattle.sise_tree.specs.ParseTree.{Frames, top, ◌▹◌, Stage, inside, closes, close, turn, ReadNode, got, read_stage, filled_with}
 use Rattle.sise_tree.specs.Filling.{opened, filled, innermost, render, filled_in, innermost_in, render_in, Shows, EndsAt, Fits, Fillable, Fills, DoesFill}
 use Rattle.sise_tree.specs.declared.parse.Mark.{Mark}
 use Rattle.sise_tree.proofs.ReadSteps.{Took, took, read_on, read_refused, node_in, stopped_got, stage_got, Leads, leads}

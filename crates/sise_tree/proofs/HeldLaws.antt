@@ -9,10 +9,10 @@ use mathlib.Core.Logic.{⊎_elim}
 use mathlib.Core.List.{List, [], ◌∷◌}
 use types.Run.{OneOf}
 use denote.Enum.Declared.{tag_of}
-use lib.Dec.{leb, ltb, eqb}
+use lib.Dec.{ltb}
 use lib.ListN.{length, drop}
 use borrow.Author.Tests.{le-leb, lt-leb, eq-eqb, ne_eqb, ltb-true, ltb-false}
-use Rattle.sise_util.specs.Atom.{kind_number, is_kind, kind_prefix, is_atom_prefix}
+use Rattle.sise_util.specs.Atom.{kind_number, is_kind, kind_prefix}
 use Rattle.sise_util.specs.declared.util.AtomKind.{AtomKind}
 use Rattle.sise_util.specs.declared.util.AtomKind.TheVariants.{Plain, String, Mixed, No}
 use Rattle.sise_util.proofs.Ranges.{split, and_first, and_second}

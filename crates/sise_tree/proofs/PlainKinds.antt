@@ -2,16 +2,14 @@
 -- Assumes nothing.
 use Prim.Native.Nat.{ℕ, suc, ◌+◌, ◌-◌, ◌≤◌, ◌<◌}
 use native.Mathlib.Omega.{arith}
-use mathlib.Core.Path.{◌≡◌, refl, sym, ap, ◌∙◌}
-use mathlib.Core.Bool.{Bool, true, false, ◌&&◌, false≢true}
+use mathlib.Core.Path.{◌≡◌, ap}
+use mathlib.Core.Bool.{true}
 use mathlib.Core.List.{List, [], ◌∷◌}
-use lib.Dec.{eqb, leb}
 use lib.ListN.{length, take, drop}
 use lib.Seq.{length-take-le}
 use borrow.Author.Tests.{le-leb}
 use Rattle.sise_util.specs.Chars.{is_atom_chr}
-use Rattle.sise_util.specs.Atom.{all_atom_chrs, kind_of, kind_number, kind_prefix}
-use Rattle.sise_util.specs.declared.util.AtomKind.{AtomKind}
+use Rattle.sise_util.specs.Atom.{all_atom_chrs, kind_number, kind_prefix}
 use Rattle.sise_util.proofs.Ranges.{split, both}
 use Rattle.sise_util.proofs.PlainRuns.{all_plain}
 use Rattle.sise_parser.specs.Plain.{atom_run}

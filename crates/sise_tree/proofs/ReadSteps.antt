@@ -11,7 +11,7 @@ use lib.ListN.{length, drop}
 use borrow.Author.Tests.{leb-true, eqb-true}
 use Rattle.sise_parser.specs.Refusals.{Refusal}
 use Rattle.sise_parser.specs.Lexer.{Lexed, found, bad, eof, opening, closing, atom, between}
-use Rattle.sise_parser.specs.Reader.{reader, lists_fit, is_sound, Answer, item, refused, Next, next, closed, token_at, in_beginning, in_parsing, next_item}
+use Rattle.sise_parser.specs.Reader.{lists_fit, is_sound, Answer, item, refused, Next, next, closed, token_at, in_beginning, in_parsing, next_item}
 use Rattle.sise_parser.specs.Meaning.{answer_as, next_as}
 use Rattle.sise_parser.specs.declared.reader.Answer.{Answer as ReaderAnswer}
 use Rattle.sise_parser.specs.declared.reader.Next.{Next as ReaderNext}

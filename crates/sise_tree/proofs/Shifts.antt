@@ -1,17 +1,16 @@
 -- "A subtree is the part of the table from its node": node i of a table is the first node of the part from it on, and is tested there as in the whole.
 -- Assumes nothing.
-use Prim.Native.Nat.{ℕ, zero, suc, ◌+◌, ◌-◌, ◌*◌, ◌/◌, ◌≤◌, ◌<◌}
+use Prim.Native.Nat.{ℕ, zero, suc, ◌+◌, ◌-◌, ◌*◌, ◌/◌, ◌<◌}
 use native.Mathlib.Nat.{add-zero}
 use native.Mathlib.Omega.{arith}
-use mathlib.Core.Path.{◌≡◌, refl, sym, ap, ◌∙◌}
-use mathlib.Core.Bool.{Bool, true, false, ◌&&◌, cond}
+use mathlib.Core.Path.{◌≡◌, sym, ap, ◌∙◌}
 use mathlib.Core.List.{List}
 use lib.Dec.{leb, ltb, eqb}
 use lib.ListN.{length, get_or, drop, length-drop}
 use lib.Seq.{get_or-drop}
 use borrow.Author.Tests.{ltb-true, ltb-false, leb-true, leb-false, eqb-true, eqb-false, lt-ltb, le-ltb, le-leb, lt-leb, eq-eqb, ne_eqb}
 use Rattle.sise_util.proofs.Ranges.{split}
-use Rattle.sise_tree.specs.Tree.{kind, first, second, span, sits, linked, fills, fills_in, good}
+use Rattle.sise_tree.specs.Tree.{kind, first, second, span, linked, fills, fills_in, good}
 use Rattle.sise_tree.specs.Parts.{good_in, atom_holds_at}
 
 eqb_add : (i j e : ℕ) → eqb j e ≡ eqb (i + j) (i + e)

@@ -1,6 +1,7 @@
 // Trees in tables of 32-bit words (parse_tree.rs and index_path of tree.rs of the crate sise 0.8.0). A node is four words, a list's children stand after it;
 // nothing recurses, so a text may nest as deep as it is long.
 #![tactic(auto)]
+
 mod find;
 mod parse;
 mod tree;

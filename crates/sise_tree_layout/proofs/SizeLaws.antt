@@ -4,11 +4,11 @@
 use Prim.Native.Nat.{ℕ, ◌+◌, ◌-◌, ◌≤◌, ◌<◌}
 use native.Mathlib.Omega.{arith}
 use mathlib.Core.Path.{◌≡◌, refl, sym, ap, ◌∙◌}
-use mathlib.Core.Bool.{Bool, true, false, false≢true, ◌&&◌}
+use mathlib.Core.Bool.{Bool, true, false, false≢true}
 use mathlib.Core.List.{List}
 use lib.Dec.{eqb}
 use lib.ListN.{length}
-use borrow.Author.Tests.{eqb-true, eqb-false, eq-eqb}
+use borrow.Author.Tests.{eqb-true, eq-eqb}
 use Rattle.sise_util.proofs.Ranges.{split, and_first, and_second}
 use Rattle.sise_parser.specs.Refusals.{Refusal}
 use Rattle.sise_serializer.specs.Serializer.{Style, fresh_serializer}
@@ -16,8 +16,8 @@ use Rattle.sise_serializer.specs.declared.serializer.Serializer.{Serializer}
 use Rattle.sise_serializer.specs.Calls.{Call}
 use Rattle.sise_tree.specs.Tree.{Node}
 use Rattle.sise_tree.specs.Answers.{Answer, answered, refused, refused_with}
-use Rattle.sise_tree_writer.specs.SerializeTree.{tree_calls, Writes, refuse, write_tree, serialize_tree, DoesWrite}
-use Rattle.sise_tree_writer.specs.Writing.{text_calls, write_text, IsWritten}
+use Rattle.sise_tree_writer.specs.SerializeTree.{Writes, refuse, write_tree, serialize_tree, DoesWrite}
+use Rattle.sise_tree_writer.specs.Writing.{write_text, IsWritten}
 use Rattle.sise_tree_writer.specs.Sizes.{Enquiry, adds, refuses, added, enquiry_by, enquiry, same, commit, commit_tree, commit_text, MeasuresTree, MeasuresText, CommitsTree, CommitsText}
 use Rattle.sise_tree_writer.specs.declared.serialize.TreeWrote.{TreeWrote}
 use Rattle.sise_tree_writer.specs.declared.size.Measured.{Measured}

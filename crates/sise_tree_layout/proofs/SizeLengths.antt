@@ -18,16 +18,16 @@ use Rattle.sise_serializer.proofs.Verdicts.{end_of, Puts, atom_alone, atom_insid
 use Rattle.sise_layout.specs.Texts.{atom_bytes, lists}
 use Rattle.sise_layout.proofs.Written.{writes}
 use Rattle.sise_layout.proofs.Buffers.{tied}
-use Rattle.sise_layout.proofs.Lengths.{bytes_of, Counted, counts}
+use Rattle.sise_layout.proofs.Lengths.{bytes_of, counts}
 use Rattle.sise_tree.specs.Tree.{Node, atom, list, Nodes, empty, ◌then◌}
 use Rattle.sise_tree.specs.Decision.{decide}
-use Rattle.sise_tree_writer.specs.SerializeTree.{node_calls, row_calls, tree_calls, fits, Writes, refuse, write_tree, serialize_tree}
+use Rattle.sise_tree_writer.specs.SerializeTree.{node_calls, row_calls, tree_calls, fits, refuse, write_tree, serialize_tree}
 use Rattle.sise_tree_writer.specs.Writing.{text_calls, write_text, IsWritten}
 use Rattle.sise_tree_writer.specs.Walking.{after}
 use Rattle.sise_tree_writer.specs.Sizes.{adds, enquiry, commit_text}
 use Rattle.sise_tree_writer.proofs.CallLaws.{fits_first, run_after, lists_after, accepted_lists}
 use Rattle.sise_tree_writer.proofs.Placing.{puts_end, lands_put, fits_lands}
-use Rattle.sise_tree_writer.proofs.Measuring.{Accepted, tree_accepted}
+use Rattle.sise_tree_writer.proofs.Measuring.{tree_accepted}
 use Rattle.sise_tree_writer.proofs.Sizes.{run_grown}
 use Rattle.sise_tree_layout.proofs.SizeLaws.{other_size, written_of, size_between}
 

@@ -1,14 +1,13 @@
 -- Calls made one after the other, all accepted: the record after them, the bytes of each, and that what is left of the calls does as the whole does.
 -- Assumes nothing.
-use Prim.Native.Nat.{ℕ, ◌+◌, ◌-◌, ◌≤◌, ◌<◌}
-use native.Mathlib.Nat.{add-zero}
+use Prim.Native.Nat.{ℕ, ◌+◌, ◌-◌, ◌<◌}
 use native.Mathlib.Omega.{arith}
 use mathlib.Core.Path.{◌≡◌, refl, sym, ap, ◌∙◌}
 use mathlib.Core.Bool.{Bool, true, false, cond, false≢true}
 use mathlib.Core.List.{List, [], ◌∷◌, ◌++◌}
-use lib.Dec.{leb, eqb}
+use lib.Dec.{leb}
 use lib.ListN.{length, take, drop, length-append, length-drop}
-use borrow.Author.Tests.{leb-true, leb-false, lt-ltb, le-ltb, eqb-true}
+use borrow.Author.Tests.{leb-true, leb-false, eqb-true}
 use Rattle.sise_util.specs.Atom.{is_atom, is_atom_prefix}
 use Rattle.sise_util.proofs.Ranges.{split, and_first, and_second}
 use Rattle.sise_parser.specs.Reader.{part_of}

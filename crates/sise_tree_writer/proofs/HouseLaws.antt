@@ -6,7 +6,6 @@ use mathlib.Core.Path.{◌≡◌, refl, ap}
 use mathlib.Core.Bool.{true}
 use mathlib.Core.Option.{some}
 use mathlib.Core.List.{List, [], ◌∷◌, ◌++◌}
-use lib.ListN.{length}
 use Rattle.sise_serializer.specs.Serializer.{style, fresh_serializer}
 use Rattle.sise_serializer.specs.Calls.{finish_call, writing}
 use Rattle.sise_tree.specs.Tree.{Node}

@@ -4,7 +4,7 @@ use Prim.Native.Nat.{ℕ, ◌+◌, ◌≤◌, min}
 use native.Mathlib.Omega.{arith}
 use mathlib.Core.Path.{◌≡◌, refl, sym, ap, ◌∙◌}
 use mathlib.Core.Bool.{Bool, true, false}
-use mathlib.Core.List.{List, [], ◌∷◌, ◌++◌}
+use mathlib.Core.List.{List, [], ◌∷◌}
 use lib.ListN.{length}
 use types.Run.{OneOf}
 use denote.Enum.Declared.{tag_of}
@@ -16,7 +16,7 @@ use Rattle.sise_serializer.specs.declared.serializer.Phase.{Phase}
 use Rattle.sise_serializer.specs.declared.serializer.Phase.TheVariants.{Beginning, Writing}
 use Rattle.sise_serializer.specs.declared.serializer.Serializer.{Serializer}
 use Rattle.sise_serializer.proofs.Running.{no_zero}
-use Rattle.sise_serializer.proofs.Verdicts.{end_of, put, Puts, atom_alone, atom_inside, list_first, list_inside, list_closed, text_ended, Verdict, refuses, puts, verdict}
+use Rattle.sise_serializer.proofs.Verdicts.{end_of, put, Puts, atom_alone, atom_inside, list_first, list_inside, list_closed, Verdict, refuses, puts, verdict}
 use Rattle.sise_serializer.specs.contracts.serializer.Phase as phases
 use Rattle.sise_tree_writer.specs.Planning.{token_of, first_item, begun_at, item_call, Room, WritesPiece, CanMake, Makes}
 

@@ -3,7 +3,7 @@
 use Prim.Native.Nat.{ℕ, ◌+◌, ◌≤◌, ◌<◌}
 use native.Mathlib.Nat.{add-zero}
 use mathlib.Core.Path.{◌≡◌, refl, sym, ap, ◌∙◌}
-use mathlib.Core.Bool.{Bool, true, false, ◌||◌, cond, false≢true}
+use mathlib.Core.Bool.{Bool, true, false, ◌||◌, cond}
 use mathlib.Core.List.{List}
 use lib.ListN.{length}
 use Rattle.sise_serializer.specs.Serializer.{Style, Answer, refused, answer_as, is_sound, Piece, refuse, place, first_atom, first_list, new_line, inner, inner_as, put_in, begin_in}

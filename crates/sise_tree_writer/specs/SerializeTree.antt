@@ -12,7 +12,7 @@ use Rattle.sise_serializer.specs.Calls.{largest, is_accepted, Call, put_atom_cal
 use Rattle.sise_tree.specs.Tree.{Node, atom, list, Nodes, empty, ◌then◌, atoms_hold}
 use Rattle.sise_tree.specs.Decision.{decide}
 use Rattle.sise_tree.specs.ParseTree.{longest}
-use Rattle.sise_tree.specs.Answers.{Answer, answered, refused, refused_with}
+use Rattle.sise_tree.specs.Answers.{Answer, answered, refused_with}
 use Rattle.sise_tree_writer.specs.Answers.{put_as}
 use Rattle.sise_tree_writer.specs.declared.serialize.TreeWrote.{TreeWrote}
 

@@ -1,6 +1,6 @@
 -- Sizes of document 01's worked table, and commits with the right size and with others, by computation.
 -- Assumes nothing.
-use Rattle.std.specs.Prelude.{ℕ, ◌≡◌, refl, false, List, [], ◌∷◌, take, replicate}
+use Rattle.std.specs.Prelude.{ℕ, ◌≡◌, refl, false, List, [], ◌∷◌, replicate}
 use Rattle.sise_util.specs.Chars.{within, one_of, is_atom_chr, marks}
 use Rattle.sise_util.specs.Classes.{class_of}
 use Rattle.sise_util.specs.Atom.{is_atom, outside, inside, escaped, has_quote, is_string, ends_string, ends_escaped, kind_of, kind_prefix, is_atom_prefix}

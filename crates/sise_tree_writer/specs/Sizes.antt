@@ -1,6 +1,6 @@
 -- Size first, then the text (document 02, 2.2): "Writing a tree splits into an enquiry ... and a commit".
 -- Assumes nothing.
-use Rattle.std.specs.Prelude.{ℕ, ◌-◌, ◌≤◌, ◌≡◌, Bool, true, false, ◌&&◌, cond, List, eqb, length}
+use Rattle.std.specs.Prelude.{ℕ, ◌-◌, ◌≤◌, ◌≡◌, Bool, false, ◌&&◌, cond, List, eqb, length}
 use Rattle.sise_serializer.specs.Serializer.{Style, fresh_serializer}
 use Rattle.sise_serializer.specs.declared.serializer.Serializer.{Serializer}
 use Rattle.sise_tree.specs.Answers.{Answer, answered, refused, refused_with}

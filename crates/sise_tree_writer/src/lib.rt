@@ -1,5 +1,6 @@
 // Trees written from tables of 32-bit words (serialize_tree.rs of the crate sise 0.8.0), at a threshold or in house style.
 #![tactic(auto)]
+
 mod house;
 mod measure;
 mod plan;

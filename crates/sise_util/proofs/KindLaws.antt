@@ -2,20 +2,20 @@
 -- said exactly where the grammar has no atom.
 -- Assumes nothing.
 use mathlib.Core.Path.{◌≡◌, refl, sym, ap, ◌∙◌}
-use mathlib.Core.Bool.{Bool, true, false, cond, ◌&&◌, ◌||◌, false≢true}
+use mathlib.Core.Bool.{true, false, false≢true}
 use mathlib.Core.Logic.{◌↔◌}
 use mathlib.Core.List.{List, [], ◌∷◌, ◌++◌}
-use Prim.Native.Nat.{ℕ, ◌+◌, ◌-◌, ◌≤◌}
+use Prim.Native.Nat.{ℕ, ◌≤◌}
 use native.Mathlib.Omega.{arith}
 use lib.Dec.{eqb, leb}
-use lib.ListN.{length, take, drop, length-append, length-drop}
+use lib.ListN.{length, take, drop, length-drop}
 use borrow.Author.Tests.{eqb-true, eq-eqb, ne_eqb, eqb-false}
-use Rattle.sise_util.specs.Chars.{is_atom_chr, is_string_chr, is_escaped_chr}
-use Rattle.sise_util.specs.Atom.{Inside, empty, chr, escape, Part, single, string, Atom, one, more, outside, inside, escaped, is_atom, all_atom_chrs, has_quote, ends_string, ends_escaped, is_string, kind_of, kind_number, is_kind, kind_prefix, is_atom_prefix}
+use Rattle.sise_util.specs.Chars.{is_string_chr, is_escaped_chr}
+use Rattle.sise_util.specs.Atom.{Inside, empty, chr, escape, string, Atom, one, inside, escaped, is_atom, has_quote, ends_string, ends_escaped, is_string, kind_of, kind_number, is_kind, kind_prefix, is_atom_prefix}
 use Rattle.sise_util.specs.declared.util.AtomKind.{AtomKind}
 use Rattle.sise_util.specs.declared.util.AtomKind.TheVariants.{Plain, String, Mixed, No}
 use Rattle.sise_util.proofs.Ranges.{split, and_first, and_second}
-use Rattle.sise_util.proofs.AtomLaws.{outside_cons, inside_cons, escaped_one, not_at, plain_passes, atom_test}
+use Rattle.sise_util.proofs.AtomLaws.{outside_cons, inside_cons, escaped_one, not_at, atom_test}
 
 -- ---- the definition's cases
 

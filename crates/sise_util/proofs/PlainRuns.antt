@@ -1,7 +1,7 @@
 -- A run of atom characters at the beginning of some bytes: one byte more, what follows of it, and the whole.
 -- Assumes nothing.
 use mathlib.Core.Path.{◌≡◌, refl, sym, ap, ◌∙◌}
-use mathlib.Core.Bool.{true, false, ◌&&◌}
+use mathlib.Core.Bool.{true, false}
 use mathlib.Core.List.{List, [], ◌∷◌}
 use Prim.Native.Nat.{ℕ, zero, suc, ◌+◌, ◌≤◌, ◌<◌}
 use lib.Dec.{eqb}
@@ -10,7 +10,7 @@ use native.Mathlib.Numerals.{add-one}
 use lib.ListN.{length, take, drop, get_or, drop_of_length-le}
 use lib.Seq.{take-length}
 use Rattle.sise_util.specs.Chars.{is_atom_chr}
-use Rattle.sise_util.specs.Atom.{outside, is_atom, all_atom_chrs, has_quote, ends_string, is_string, kind_of}
+use Rattle.sise_util.specs.Atom.{outside, is_atom, all_atom_chrs, has_quote, is_string, kind_of}
 use Rattle.sise_util.specs.declared.util.AtomKind.TheVariants.{Plain}
 use Rattle.sise_util.specs.Parts.{PlainTo}
 use Rattle.sise_util.proofs.Ranges.{both, and_first, and_second}

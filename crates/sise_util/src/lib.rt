@@ -1,5 +1,6 @@
 // Characters and atoms (util.rs of the crate sise 0.8.0), the classes of bytes, and a character by RFC 3629.
 #![tactic(auto)]
+
 pub mod classes;
 mod table;
 mod utf8;

@@ -1,5 +1,4 @@
 -- `read_atom_call` meets its contract: each number lies after the last, the atom after them, and the next call after it.
-use borrow.Author.Rules.{rules}
 use native.Mathlib.Omega.{arith}
 use borrow.Author.Tests.{leb-false}
 use Rattle.script.proofs.Froms.{number_from}

@@ -1,5 +1,4 @@
 -- `read_call` meets its contract: what follows the letter lies after it.
-use borrow.Author.Rules.{rules}
 use Rattle.script.proofs.Froms.{earlier_call}
 use Rattle.script.proofs.read_call.Goals as goal
 

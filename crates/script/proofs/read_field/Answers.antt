@@ -1,5 +1,4 @@
 -- `read_field` meets its contract: the number lies after the space.
-use borrow.Author.Rules.{rules}
 use Rattle.script.proofs.Froms.{earlier_number}
 use Rattle.script.proofs.read_field.Goals as goal
 

@@ -1,7 +1,4 @@
 -- `read_number` meets its contract: the place rises to the end of the script, and the value stays below 1,000,000,000.
-use native.Mathlib.Omega.{arith}
-use borrow.Author.Rules.{rules}
-use borrow.Author.Tests.{ltb-false}
 use lib.ListN.{length}
 use Prim.Native.Nat.{◌-◌, ◌≤◌, ◌<◌}
 use Rattle.script.proofs.read_number.Given as goal

@@ -1,5 +1,4 @@
 -- `read_short_call` meets its contract: the number lies after the letter, and the next call after it.
-use borrow.Author.Rules.{rules}
 use native.Mathlib.Omega.{arith}
 use Rattle.script.proofs.Froms.{number_from}
 use Rattle.script.proofs.read_short_call.Goals as goal

@@ -1,5 +1,4 @@
 -- `read_writer_case` meets its contract: each number lies after the last, and the style after them.
-use borrow.Author.Rules.{rules}
 use native.Mathlib.Omega.{arith}
 use borrow.Author.Tests.{leb-false, ltb-false}
 use Rattle.script.proofs.Froms.{number_from}

@@ -1,7 +1,6 @@
 -- The number of what check_atom answers.
 use mathlib.Core.Path.{ap, ◌∙◌}
 use Rattle.sise_util.specs.Atom.{kind_number}
-use borrow.Author.Rules.{rules}
 use Rattle.sise_c.proofs.sise_atom_kind.Goals as goal
 
 pub returns : goal.returns

@@ -3,7 +3,6 @@ use mathlib.Core.Path.{sym, ap, ◌∙◌}
 use Rattle.sise_util.specs.Atom.{is_kind}
 use Rattle.sise_util.proofs.KindLaws.{kind_atom}
 use Rattle.sise_c.specs.Reports.{checked}
-use borrow.Author.Rules.{rules}
 use Rattle.sise_c.proofs.sise_check_atom.Goals as goal
 
 pub returns-then-is_atom : goal.returns-then-is_atom

@@ -1,5 +1,4 @@
 -- `sise_commit_tree` meets its contract: it hands the three words over as a size, and reports what commit_text promises, of the record the position alone.
-use borrow.Author.Rules.{rules}
 use Rattle.sise_c.proofs.Reporting.{reports_written}
 use Rattle.sise_c.proofs.sise_commit_tree.Goals as goal
 

@@ -1,6 +1,5 @@
 -- `sise_find_path` meets its contract: it reports what find_path promises.
 use mathlib.Core.Path.{refl, sym}
-use borrow.Author.Rules.{rules}
 use Rattle.sise_c.proofs.Reporting.{found_by}
 use Rattle.sise_c.proofs.sise_find_path.Goals as goal
 

@@ -1,6 +1,5 @@
 -- `sise_index_path` meets its contract: it reports what index_path promises.
 use mathlib.Core.Path.{refl, sym}
-use borrow.Author.Rules.{rules}
 use Rattle.sise_c.proofs.Reporting.{reports_by}
 use Rattle.sise_c.proofs.sise_index_path.Goals as goal
 

@@ -1,5 +1,4 @@
 -- `sise_measure_tree` meets its contract: it reports what measure_text promises.
-use borrow.Author.Rules.{rules}
 use Rattle.sise_c.proofs.Reporting.{enquiry_by_lem}
 use Rattle.sise_c.proofs.sise_measure_tree.Goals as goal
 

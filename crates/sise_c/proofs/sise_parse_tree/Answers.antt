@@ -1,6 +1,5 @@
 -- `sise_parse_tree` meets its contract: it reports what parse_text promises.
 use mathlib.Core.Path.{refl, sym}
-use borrow.Author.Rules.{rules}
 use Rattle.sise_c.proofs.Reporting.{reports_by}
 use Rattle.sise_c.proofs.sise_parse_tree.Goals as goal
 

@@ -5,7 +5,6 @@ use mathlib.Core.Bool.{Bool, cond}
 use mathlib.Core.List.{List, [], ◌∷◌}
 use lib.Dec.{leb}
 use lib.ListN.{length}
-use borrow.Author.Rules.{rules}
 use borrow.Author.Tests.{le-leb, lt-leb}
 use Rattle.sise_parser.specs.Refusals.{refusal_of}
 use Rattle.sise_parser.specs.Meaning.{finished_as}
@@ -17,8 +16,6 @@ use Rattle.sise_tree.specs.Answers.{answered, refused, refused_with}
 use Rattle.sise_c.specs.Reports.{Reports}
 use Rattle.sise_c.specs.Items.{items_of, ending_of, all_words, ReadsItems, reads, items_in, read_items_by, read_items}
 use Rattle.sise_c.proofs.sise_read_items.Goals as goal
-
-
 
 abbrev Leaves : ReadsItems → ℕ → List ℕ → List ℕ → Type 0
 Leaves d r values words = Reports d.answer r values × (words ≡ d.words)

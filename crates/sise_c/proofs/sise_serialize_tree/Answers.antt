@@ -1,5 +1,4 @@
 -- `sise_serialize_tree` meets its contract: it reports what write_text promises, and of the record the position alone.
-use borrow.Author.Rules.{rules}
 use Rattle.sise_c.proofs.Reporting.{reports_written}
 use Rattle.sise_c.proofs.sise_serialize_tree.Goals as goal
 

@@ -3,14 +3,11 @@ use Prim.Native.Nat.{ℕ}
 use mathlib.Core.Path.{◌≡◌, ap}
 use mathlib.Core.List.{List, [], ◌∷◌}
 use lib.ListN.{length}
-use borrow.Author.Rules.{rules}
 use Rattle.sise_serializer.specs.Serializer.{Style}
 use Rattle.sise_serializer.specs.Words.{calls_of, Runs, WritesCalls}
 use Rattle.sise_serializer.specs.declared.calls.Ran.{Ran}
 use Rattle.sise_serializer.specs.declared.serializer.Serializer.{Serializer}
 use Rattle.sise_c.proofs.sise_write_calls.Goals as goal
-
-
 
 handed_on : {s : Style} {words atoms b before : List ℕ} {r : Ran} {bytes now : List ℕ} → Runs s words atoms b before r bytes now
     → WritesCalls s words atoms b before r.serializer.position bytes now × (r.calls ∷ [] ≡ length (calls_of words atoms (length before)) ∷ [])

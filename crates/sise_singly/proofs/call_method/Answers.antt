@@ -1,6 +1,5 @@
 -- Each branch is the method that its kind means, on the bytes that the words name.
 use Rattle.sise_serializer.proofs.Running.{call_atom, call_begin, call_end, call_finish}
-use borrow.Author.Rules.{rules}
 use Rattle.sise_singly.proofs.call_method.Goals as goal
 
 pub returns-then-kind-eq0 : goal.returns-then-kind-eq0

@@ -1,25 +1,11 @@
 -- `sise_count_items` meets its contract. What the loop keeps: the items counted, and those of as many calls as are left, are all.
-use mathlib.Core.Path.{◌≡◌, sym, ap, ◌∙◌}
+use mathlib.Core.Path.{◌≡◌}
 use mathlib.Core.List.{List}
-use Prim.Native.Nat.{ℕ, suc, ◌+◌, ◌-◌}
-use native.Mathlib.Nat.{zero-add}
-use native.Mathlib.Omega.{arith}
+use Prim.Native.Nat.{ℕ, suc, ◌+◌}
 use lib.ListN.{length}
-use borrow.Author.Rules.{rules}
-use Rattle.sise_parser.specs.Refusals.{Refusal, refusal_of}
-use Rattle.sise_parser.specs.Reader as reader
-use Rattle.sise_parser.specs.Reader.{fresh_reader, next_item}
-use Rattle.sise_parser.specs.Meaning.{answer_as, next_as}
-use Rattle.sise_parser.specs.declared.error.ParseError.{ParseError}
-use Rattle.sise_parser.specs.declared.reader.Answer.{Answer}
-use Rattle.sise_parser.specs.declared.reader.Answer.TheVariants.{Item, Refused}
-use Rattle.sise_parser.specs.declared.reader.ParsedItem.{ParsedItem}
-use Rattle.sise_parser.specs.declared.reader.Next.{Next}
 use Rattle.sise_parser.specs.declared.reader.Reader.{Reader}
 use Rattle.sise_singly.specs.Count.{count_from, count_items}
 use Rattle.sise_singly.proofs.sise_count_items.Given as goal
-
-
 
 pub record Counted (text : List ℕ) (r : Reader) (count left : ℕ) : Type 0 where
   pub total : count + count_from (suc left) text r ≡ count_items text

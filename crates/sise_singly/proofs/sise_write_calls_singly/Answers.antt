@@ -1,14 +1,13 @@
 -- As in write_calls: before each turn, running what is left of the words from here leaves what running all of them leaves; each turn leaves one answer less to go.
 -- of the record the position alone
-use Prim.Native.Nat.{ℕ, ◌-◌}
+use Prim.Native.Nat.{ℕ}
 use mathlib.Core.Path.{refl, sym, ap, ◌∙◌}
 use mathlib.Core.List.{List}
-use lib.ListN.{length}
-use Rattle.sise_serializer.specs.Serializer.{Style, style, fresh_serializer}
+use Rattle.sise_serializer.specs.Serializer.{Style}
 use Rattle.sise_serializer.specs.Words.{answer_word, Runs, WritesCalls}
 use Rattle.sise_serializer.specs.declared.calls.Ran.{Ran}
 use Rattle.sise_serializer.specs.declared.serializer.Serializer.{Serializer}
-use Rattle.sise_serializer.proofs.Running.{Left, start_fresh, fresh_runs, full, stopped, has_room, on}
+use Rattle.sise_serializer.proofs.Running.{start_fresh, fresh_runs, full, stopped, has_room, on}
 use borrow.Author.Rules.{rules}
 use Rattle.sise_singly.proofs.sise_write_calls_singly.Goals as goal
 

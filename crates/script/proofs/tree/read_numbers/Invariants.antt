@@ -1,11 +1,7 @@
 -- `read_numbers` meets its contract: each number lies after the last, and the line end after them.
-use borrow.Author.Rules.{rules}
 use lib.ListN.{length}
-use mathlib.Core.Path.{◌≡◌, refl}
+use mathlib.Core.Path.{◌≡◌}
 use Prim.Native.Nat.{◌-◌, ◌≤◌, ◌<◌}
-use native.Mathlib.Omega.{arith}
-use borrow.Author.Tests.{leb-false, ltb-false}
-use Rattle.script.proofs.Froms.{number_from}
 use Rattle.script.proofs.tree.read_numbers.Given as goal
 
 abbrev pub invariant-loop-i : goal.invariant-loop-i

@@ -1,5 +1,4 @@
 -- `read_tree_line` meets its contract: each number lies after the last.
-use borrow.Author.Rules.{rules}
 use native.Mathlib.Omega.{arith}
 use Rattle.script.proofs.Froms.{number_from}
 use Rattle.script.proofs.tree.read_tree_line.Goals as goal

@@ -3,17 +3,16 @@ use Prim.Native.Nat.{ℕ, ◌+◌, ◌-◌, ◌≤◌, ◌<◌}
 use native.Mathlib.Omega.{arith}
 use mathlib.Core.Path.{◌≡◌, refl, sym, ◌∙◌}
 use mathlib.Core.List.{List}
-use lib.ListN.{length, drop}
-use borrow.Author.Rules.{rules}
+use lib.ListN.{drop}
 use borrow.Author.Tests.{eqb-false}
 use Rattle.sise_parser.specs.Lexer.{found, opening, closing, atom, between}
 use Rattle.sise_parser.proofs.ByteSteps.{between_open, between_close}
 use Rattle.sise_parser.proofs.Calls.{sound_parts}
-use Rattle.sise_c.specs.Passes.{CanCount, CountsOn}
+use Rattle.sise_c.specs.Passes.{CanCount}
 use Rattle.sise_c.specs.declared.items.Place.{Place}
 use Rattle.sise_tree.proofs.PlainItems.{plain_atom, plain_start, plain_end}
 use Rattle.sise_c.proofs.ItemLaws.{counts_more}
-use Rattle.sise_c.proofs.items.count_plain.Invariants.{Run, place}
+use Rattle.sise_c.proofs.items.count_plain.Invariants.{Run}
 use Rattle.sise_c.proofs.items.count_plain.Goals as goal
 
 module _ {text : List ℕ} {b : Place} {p d n : ℕ} (v : Run text b p d n) {s : ℕ} (l : p ≤ s) where

@@ -1,21 +1,11 @@
 -- Each plain token is the item that next_item would give there, so the counting goes on by that item's law.
-use Prim.Native.Nat.{ℕ, ◌+◌, ◌-◌, ◌≤◌, ◌<◌}
-use native.Mathlib.Omega.{arith}
-use mathlib.Core.Path.{◌≡◌, refl, sym, ◌∙◌}
+use Prim.Native.Nat.{ℕ, ◌-◌, ◌≤◌}
+use mathlib.Core.Path.{◌≡◌}
 use mathlib.Core.List.{List}
-use lib.ListN.{length, drop}
-use borrow.Author.Rules.{rules}
-use borrow.Author.Tests.{eqb-false}
-use Rattle.sise_parser.specs.Lexer.{found, opening, closing, atom, between}
-use Rattle.sise_parser.proofs.ByteSteps.{between_open, between_close}
-use Rattle.sise_parser.proofs.Calls.{sound_parts}
-use Rattle.sise_c.specs.Passes.{CanCount, CountsOn}
+use lib.ListN.{length}
+use Rattle.sise_c.specs.Passes.{CountsOn}
 use Rattle.sise_c.specs.declared.items.Place.{Place}
-use Rattle.sise_tree.proofs.PlainItems.{plain_atom, plain_start, plain_end}
-use Rattle.sise_c.proofs.ItemLaws.{counts_more}
 use Rattle.sise_c.proofs.items.count_plain.Given as goal
-
-
 
 abbrev pub place : ℕ → ℕ → ℕ → Place
 place p d n = record { position = p; lists = d; items = n }

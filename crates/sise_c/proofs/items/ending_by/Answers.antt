@@ -4,15 +4,12 @@ use mathlib.Core.Path.{◌≡◌, sym, ap, ◌∙◌}
 use mathlib.Core.Bool.{Bool, cond}
 use mathlib.Core.List.{List}
 use lib.Dec.{eqb}
-use borrow.Author.Rules.{rules}
 use borrow.Author.Tests.{eq-eqb, ne_eqb}
 use Rattle.sise_parser.specs.Refusals.{Refusal}
 use Rattle.sise_parser.specs.Reader.{not_ended, finish_reading}
 use Rattle.sise_parser.specs.declared.reader.Reader.{Reader}
 use Rattle.sise_c.specs.Items.{ending_by}
 use Rattle.sise_c.proofs.items.ending_by.Goals as goal
-
-
 
 module _ (text : List ℕ) (r : Reader) (e : Refusal) {n : ℕ} (d : n ≡ e.number) where
   by : {b : Bool} → eqb n 9 ≡ b → cond b (finish_reading text r) (not_ended e) ≡ ending_by text r e

@@ -1,8 +1,5 @@
 -- What the loop keeps: writing the words of the items that are left gives the words of all; the position measures what is left.
-use Prim.Native.Nat.{◌-◌}
-use lib.ListN.{length}
 use borrow.Author.Rules.{rules}
-use Rattle.sise_c.specs.Passes.{Fills}
 use Rattle.sise_c.proofs.ItemLaws.{gave_item, gave_refusal, falls, fewer, fills_none, fills_all, fills_room, fills_more}
 use Rattle.sise_c.proofs.items.fill_items.Goals as goal
 

@@ -4,17 +4,16 @@ use native.Mathlib.Omega.{arith}
 use mathlib.Core.Path.{◌≡◌, refl, sym, ◌∙◌}
 use mathlib.Core.List.{List, [], ◌∷◌}
 use lib.ListN.{length, drop}
-use borrow.Author.Rules.{rules}
 use borrow.Author.Tests.{eqb-false}
 use Rattle.sise_parser.specs.Lexer.{found, opening, closing, atom, between}
 use Rattle.sise_parser.proofs.ByteSteps.{between_open, between_close}
 use Rattle.sise_parser.proofs.Calls.{sound_parts}
 use Rattle.sise_serializer.specs.Bytes.{pasted}
-use Rattle.sise_c.specs.Passes.{CanFill, FillsOn}
+use Rattle.sise_c.specs.Passes.{CanFill}
 use Rattle.sise_c.specs.declared.items.Place.{Place}
 use Rattle.sise_tree.proofs.PlainItems.{plain_atom, plain_start, plain_end}
 use Rattle.sise_c.proofs.ItemLaws.{fills_room, fills_more}
-use Rattle.sise_c.proofs.items.fill_plain.Invariants.{Run, place}
+use Rattle.sise_c.proofs.items.fill_plain.Invariants.{Run}
 use Rattle.sise_c.proofs.items.fill_plain.Goals as goal
 
 same : {text was : List ℕ} {b : Place} {words : List ℕ} {p d n : ℕ} → Run text was b words p d n → CanFill text was b → length words ≡ length was

@@ -2,13 +2,10 @@
 use Prim.Native.Nat.{ℕ}
 use mathlib.Core.Path.{◌≡◌, sym, subst}
 use mathlib.Core.List.{List}
-use borrow.Author.Rules.{rules}
 use Rattle.sise_parser.specs.declared.reader.ParsedItem.{ParsedItem}
 use Rattle.sise_serializer.specs.Bytes.{pasted}
 use Rattle.sise_c.specs.Items.{item_words}
 use Rattle.sise_c.proofs.items.put_item.Goals as goal
-
-
 
 of_kind : (l : List ℕ) (at : ℕ) {now : List ℕ} {i j : ParsedItem} → i ≡ j → now ≡ pasted l at (item_words j) → now ≡ pasted l at (item_words i)
 of_kind l at {now} e d = subst (λ (x : ParsedItem). now ≡ pasted l at (item_words x)) (sym e) d

@@ -4,13 +4,10 @@ use native.Mathlib.Omega.{arith}
 use mathlib.Core.Path.{◌≡◌, sym, ap, ◌∙◌}
 use mathlib.Core.List.{List, [], ◌∷◌}
 use lib.ListN.{length, set, length-set}
-use borrow.Author.Rules.{rules}
 use Rattle.sise_serializer.specs.Bytes.{pasted}
 use Rattle.sise_serializer.proofs.Bytes.{pasted_none}
 use Rattle.sise_serializer.proofs.Running.{pasted_cons}
 use Rattle.sise_c.proofs.items.put_words.Goals as goal
-
-
 
 four : (l : List ℕ) (at a b c d : ℕ) → at + 4 ≤ length l → set (set (set (set l at a) (at + 1) b) (at + 2) c) (at + 3) d ≡ pasted l at (a ∷ b ∷ c ∷ d ∷ [])
 four l at a b c d h =

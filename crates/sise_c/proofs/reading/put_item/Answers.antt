@@ -1,7 +1,6 @@
 -- Each arm writes the words of its item.
 use mathlib.Core.Path.{sym, ap}
 use lib.ListN.{take}
-use borrow.Author.Rules.{rules}
 use Rattle.sise_parser.specs.declared.reader.ParsedItem.{ParsedItem}
 use Rattle.sise_c.specs.Items.{item_words}
 use Rattle.sise_c.proofs.reading.put_item.Goals as goal

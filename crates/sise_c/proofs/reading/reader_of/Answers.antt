@@ -1,6 +1,5 @@
 -- Each arm is a case of the phase's word.
 use mathlib.Core.Path.{refl, ap}
-use borrow.Author.Rules.{rules}
 use Rattle.sise_c.specs.Records.{reader_phase}
 use Rattle.sise_c.proofs.RecordLaws.{no_reader_phase, means_reader}
 use Rattle.sise_c.proofs.reading.reader_of.Goals as goal

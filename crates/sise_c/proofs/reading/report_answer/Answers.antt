@@ -1,5 +1,4 @@
 -- An item's words, or a refusal's number, place and code point.
-use borrow.Author.Rules.{rules}
 use Rattle.sise_c.proofs.SinglyLaws.{next_refused}
 use Rattle.sise_c.proofs.reading.report_answer.Goals as goal
 

@@ -1,5 +1,4 @@
 -- `sise_finish_reading` meets its contract: the words mean no record, or it reports what finish promises of theirs.
-use borrow.Author.Rules.{rules}
 use Rattle.sise_c.proofs.SinglyLaws.{finish_unsound, finish_read}
 use mathlib.Core.Path.{refl}
 use Rattle.sise_c.proofs.reading.sise_finish_reading.Goals as goal

@@ -1,5 +1,4 @@
 -- `sise_next_item` meets its contract: the words mean no record, or it reports what next_item promises of theirs.
-use borrow.Author.Rules.{rules}
 use Rattle.sise_c.proofs.SinglyLaws.{next_unsound, next_read}
 use Rattle.sise_c.proofs.reading.sise_next_item.Goals as goal
 

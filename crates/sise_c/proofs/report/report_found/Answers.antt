@@ -1,6 +1,5 @@
 -- `report_found` meets its contract: the node is found, or the answer is a refusal.
 use mathlib.Core.Path.{refl, ap}
-use borrow.Author.Rules.{rules}
 use Rattle.sise_tree.specs.FindPath.{found_as}
 use Rattle.sise_c.proofs.Reporting.{found_by, found_node, found_refusal}
 use borrow.Enum.Refused.{opened}

@@ -1,6 +1,5 @@
 -- `report_indexed` meets its contract: the node is found, or the answer is a refusal.
 use mathlib.Core.Path.{refl, ap}
-use borrow.Author.Rules.{rules}
 use Rattle.sise_tree.specs.Answers.{indexed_as}
 use Rattle.sise_c.proofs.Reporting.{reports_by, reports_answered, indexed_refusal}
 use borrow.Enum.Refused.{opened}

@@ -1,5 +1,4 @@
 -- `report_measured` meets its contract: the size, or the number of a refusal.
-use borrow.Author.Rules.{rules}
 use Rattle.sise_c.proofs.Reporting.{size_reported, size_refusal}
 use borrow.Enum.Refused.{opened}
 use Rattle.sise_c.proofs.report.report_measured.Goals as goal

@@ -1,6 +1,5 @@
 -- `report_parsed` meets its contract: the nodes are counted, or the answer is a refusal.
 use mathlib.Core.Path.{ap}
-use borrow.Author.Rules.{rules}
 use Rattle.sise_tree.specs.Answers.{parsed_as}
 use Rattle.sise_c.proofs.Reporting.{reports_answered, reports_refusal}
 use borrow.Enum.Refused.{opened}

@@ -1,6 +1,5 @@
 -- `report_put` meets its contract: the tree is written, or the answer is a refusal.
 use mathlib.Core.Path.{refl, ap}
-use borrow.Author.Rules.{rules}
 use Rattle.sise_tree_writer.specs.Answers.{put_as}
 use Rattle.sise_tree_writer.specs.declared.serialize.PutTree.{PutTree}
 use Rattle.sise_c.specs.Reports.{size_or}

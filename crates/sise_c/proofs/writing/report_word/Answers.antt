@@ -1,9 +1,8 @@
 -- The word is below 2 ^ 32, and an offset, or a refusal's number stands above that.
-use Prim.Native.Nat.{ℕ, ◌-◌, ◌^◌}
+use Prim.Native.Nat.{◌-◌, ◌^◌}
 use native.Mathlib.Omega.{arith}
 use mathlib.Core.Path.{refl, ap}
 use mathlib.Core.Bool.{Bool, cond}
-use borrow.Author.Rules.{rules}
 use borrow.Author.Tests.{le-leb, lt-leb}
 use Rattle.sise_tree.specs.Answers.{answered, refused_with}
 use Rattle.sise_c.proofs.Reporting.{reports_by, reports_answered}

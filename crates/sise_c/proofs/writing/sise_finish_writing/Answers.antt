@@ -1,7 +1,6 @@
 -- `sise_finish_writing` meets its contract: the words mean no record, or a list of the one call does what it does.
 use Rattle.sise_serializer.specs.Serializer.{style}
 use Rattle.sise_serializer.specs.Calls.{finish_call}
-use borrow.Author.Rules.{rules}
 use Rattle.sise_c.proofs.SinglyLaws.{call_unsound, one_made, made_below, finish_kind, finish_below, call_made}
 use Rattle.sise_c.proofs.writing.sise_finish_writing.Goals as goal
 

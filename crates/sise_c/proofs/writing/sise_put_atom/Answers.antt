@@ -2,7 +2,6 @@
 use native.Mathlib.Omega.{arith}
 use Rattle.sise_serializer.specs.Serializer.{style}
 use Rattle.sise_serializer.specs.Calls.{put_atom_call}
-use borrow.Author.Rules.{rules}
 use Rattle.sise_c.proofs.SinglyLaws.{call_unsound, one_made, made_below, atom_kind, call_made}
 use Rattle.sise_c.proofs.writing.sise_put_atom.Goals as goal
 

@@ -1,6 +1,5 @@
 -- Each arm is a case of the phase's word and the flag's.
 use mathlib.Core.Path.{refl, ap}
-use borrow.Author.Rules.{rules}
 use Rattle.sise_c.specs.Records.{writer_phase}
 use Rattle.sise_c.proofs.RecordLaws.{no_writer_phase, is_flag, no_flag, means_writer, no_writer}
 use Rattle.sise_c.proofs.writing.writer_of.Goals as goal

@@ -2,17 +2,15 @@
 use mathlib.Core.Path.{◌≡◌, refl, sym, ap, ◌∙◌}
 use mathlib.Core.Bool.{true}
 use mathlib.Core.List.{List}
-use Prim.Native.Nat.{ℕ, ◌+◌, ◌-◌, ◌≤◌, ◌<◌}
+use Prim.Native.Nat.{ℕ, ◌+◌, ◌≤◌, ◌<◌}
 use native.Mathlib.Omega.{arith}
 use native.Mathlib.Nat.{le_refl}
 use lib.Dec.{eqb}
 use lib.ListN.{length, drop, get_or}
-use borrow.Author.Rules.{rules}
 use borrow.Author.Tests.{eqb-true, eqb-false}
 use Rattle.sise_util.specs.Chars.{is_atom_chr}
 use Rattle.sise_util.proofs.Ranges.{split}
 use Rattle.sise_parser.specs.Lexer.{between, plain}
-use Rattle.sise_parser.specs.Plain.{atom_run}
 use Rattle.sise_parser.proofs.Steps.{plain_end, run_end}
 use Rattle.sise_parser.proofs.ByteSteps.{between_atom, plain_atom, plain_stop, run_on, run_stops}
 use Rattle.sise_parser.proofs.lexer.atom_run.Invariants.{InRun}

@@ -1,23 +1,11 @@
 -- What the loop keeps: the run of atom characters, and the atom, are the same from here as from the start, where an atom begins if the run is not empty.
-use mathlib.Core.Path.{◌≡◌, refl, sym, ap, ◌∙◌}
-use mathlib.Core.Bool.{true}
+use mathlib.Core.Path.{◌≡◌}
 use mathlib.Core.List.{List}
-use Prim.Native.Nat.{ℕ, ◌+◌, ◌-◌, ◌≤◌, ◌<◌}
-use native.Mathlib.Omega.{arith}
-use native.Mathlib.Nat.{le_refl}
-use lib.Dec.{eqb}
-use lib.ListN.{length, drop, get_or}
-use borrow.Author.Rules.{rules}
-use borrow.Author.Tests.{eqb-true, eqb-false}
-use Rattle.sise_util.specs.Chars.{is_atom_chr}
-use Rattle.sise_util.proofs.Ranges.{split}
+use Prim.Native.Nat.{ℕ, ◌-◌, ◌≤◌, ◌<◌}
+use lib.ListN.{length, drop}
 use Rattle.sise_parser.specs.Lexer.{between, plain}
 use Rattle.sise_parser.specs.Plain.{atom_run}
-use Rattle.sise_parser.proofs.Steps.{plain_end, run_end}
-use Rattle.sise_parser.proofs.ByteSteps.{between_atom, plain_atom, plain_stop, run_on, run_stops}
 use Rattle.sise_parser.proofs.lexer.atom_run.Given as goal
-
-
 
 pub record InRun (text : List ℕ) (start at : ℕ) : Type 0 where
   pub after : start ≤ at

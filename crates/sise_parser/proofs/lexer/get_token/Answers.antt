@@ -1,18 +1,10 @@
 -- `sise_parser::get_token` meets its contract. What the two loops keep: what the definition says from the place where the call began is what it says from
 -- here, between tokens or in a comment.
-use mathlib.Core.Path.{◌≡◌, refl, sym, ◌∙◌}
-use mathlib.Core.Logic.{⊎_elim}
-use mathlib.Core.List.{List}
-use Prim.Native.Nat.{ℕ, ◌-◌, ◌≤◌}
+use mathlib.Core.Path.{refl, sym, ◌∙◌}
 use native.Mathlib.Omega.{arith}
 use native.Mathlib.Nat.{le_refl}
-use lib.ListN.{length, drop}
-use borrow.Author.Rules.{rules}
-use borrow.Author.Tests.{eqb-true, eqb-false}
-use Rattle.sise_parser.specs.Lexer.{Lexed, between, comment}
 use Rattle.sise_parser.proofs.Steps.{between_end, comment_end, comment_line_end, comment_wrong, comment_on}
 use Rattle.sise_parser.proofs.ByteSteps.{between_space, between_tab, between_comment, between_open, between_close, between_atom, between_string, between_wrong}
-use Rattle.sise_parser.proofs.lexer.get_token.Invariants.{Between, InComment}
 use Rattle.sise_parser.proofs.lexer.get_token.Goals as goal
 use Rattle.sise_parser.proofs.lexer.get_token.Goals.{then-is_atom_byte-via-then-is_atom_byte, then-is_atom_byte-via-else-is_atom_byte+then-byte-eq34}
 

@@ -1,13 +1,10 @@
 -- `sise_parser::illegal_chr` meets its contract, case by case.
 use mathlib.Core.Path.{◌≡◌, sym, ap}
 use Prim.Native.Nat.{ℕ}
-use borrow.Author.Rules.{rules}
 use Rattle.sise_parser.specs.Refusals.{refusal}
 use Rattle.sise_parser.specs.Meaning.{place_number}
 use Rattle.sise_parser.specs.declared.lexer.Place.{Place}
 use Rattle.sise_parser.proofs.lexer.illegal_chr.Goals as goal
-
-
 
 -- the number of a place that is known
 known : {p q : Place} (pos chr : ℕ) → p ≡ q → refusal (place_number q) pos chr ≡ refusal (place_number p) pos chr

@@ -1,17 +1,13 @@
 -- `sise_parser::lex_atom` meets its contract. What the loop keeps: what the definition says from the atom's start is what it says from here.
 use mathlib.Core.Path.{◌≡◌, refl, sym, ◌∙◌, subst}
 use mathlib.Core.List.{List}
-use Prim.Native.Nat.{ℕ, ◌-◌, ◌≤◌}
+use Prim.Native.Nat.{ℕ}
 use native.Mathlib.Omega.{arith}
 use native.Mathlib.Nat.{le_refl}
-use lib.ListN.{length, drop}
-use borrow.Author.Rules.{rules}
-use Rattle.sise_parser.specs.Lexer.{plain}
 use Rattle.sise_parser.specs.Meaning.{Ends}
 use Rattle.sise_parser.specs.declared.lexer.StringEnd.{StringEnd}
 use Rattle.sise_parser.proofs.Steps.{plain_end}
 use Rattle.sise_parser.proofs.ByteSteps.{plain_atom, plain_string_lem, plain_stop}
-use Rattle.sise_parser.proofs.lexer.lex_atom.Invariants.{InAtom}
 use Rattle.sise_parser.proofs.lexer.lex_atom.Goals as goal
 
 -- a string's end, where it is known which it is

@@ -1,19 +1,10 @@
 -- `sise_parser::lex_atom` meets its contract. What the loop keeps: what the definition says from the atom's start is what it says from here.
-use mathlib.Core.Path.{◌≡◌, refl, sym, ◌∙◌, subst}
+use mathlib.Core.Path.{◌≡◌}
 use mathlib.Core.List.{List}
 use Prim.Native.Nat.{ℕ, ◌-◌, ◌≤◌}
-use native.Mathlib.Omega.{arith}
-use native.Mathlib.Nat.{le_refl}
 use lib.ListN.{length, drop}
-use borrow.Author.Rules.{rules}
 use Rattle.sise_parser.specs.Lexer.{plain}
-use Rattle.sise_parser.specs.Meaning.{Ends}
-use Rattle.sise_parser.specs.declared.lexer.StringEnd.{StringEnd}
-use Rattle.sise_parser.proofs.Steps.{plain_end}
-use Rattle.sise_parser.proofs.ByteSteps.{plain_atom, plain_string_lem, plain_stop}
 use Rattle.sise_parser.proofs.lexer.lex_atom.Given as goal
-
-
 
 pub record InAtom (text : List ℕ) (start at : ℕ) : Type 0 where
   pub after : start ≤ at

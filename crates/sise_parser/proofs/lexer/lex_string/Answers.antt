@@ -1,15 +1,9 @@
 -- `sise_parser::lex_string` meets its contract. What the loop keeps: what the definition says from the place where the string began to be read is what it
 -- says from here, for every atom that it may belong to.
-use mathlib.Core.Path.{◌≡◌, refl, sym, ◌∙◌}
-use mathlib.Core.List.{List}
-use Prim.Native.Nat.{ℕ, ◌-◌, ◌≤◌}
+use mathlib.Core.Path.{refl, sym, ◌∙◌}
 use native.Mathlib.Omega.{arith}
 use native.Mathlib.Nat.{le_refl}
-use lib.ListN.{length, drop}
-use borrow.Author.Rules.{rules}
-use Rattle.sise_parser.specs.Lexer.{string}
 use Rattle.sise_parser.proofs.Steps.{string_end, escape_end, string_quote, string_backslash, string_wrong, string_on, escape_wrong, escape_on}
-use Rattle.sise_parser.proofs.lexer.lex_string.Invariants.{InString}
 use Rattle.sise_parser.proofs.lexer.lex_string.Goals as goal
 
 pub loop-at-init : goal.loop-at-init

@@ -1,17 +1,11 @@
 -- `sise_parser::lex_string` meets its contract. What the loop keeps: what the definition says from the place where the string began to be read is what it
 -- says from here, for every atom that it may belong to.
-use mathlib.Core.Path.{◌≡◌, refl, sym, ◌∙◌}
+use mathlib.Core.Path.{◌≡◌}
 use mathlib.Core.List.{List}
 use Prim.Native.Nat.{ℕ, ◌-◌, ◌≤◌}
-use native.Mathlib.Omega.{arith}
-use native.Mathlib.Nat.{le_refl}
 use lib.ListN.{length, drop}
-use borrow.Author.Rules.{rules}
 use Rattle.sise_parser.specs.Lexer.{string}
-use Rattle.sise_parser.proofs.Steps.{string_end, escape_end, string_quote, string_backslash, string_wrong, string_on, escape_wrong, escape_on}
 use Rattle.sise_parser.proofs.lexer.lex_string.Given as goal
-
-
 
 pub record InString (text : List ℕ) (from at : ℕ) : Type 0 where
   pub after : from ≤ at

@@ -1,16 +1,9 @@
 -- What the loop keeps: the first place that is no blank, and the token, are the same from here as from where the call began.
-use mathlib.Core.Path.{◌≡◌, refl, sym, ◌∙◌}
-use mathlib.Core.List.{List}
-use Prim.Native.Nat.{ℕ, ◌-◌, ◌≤◌}
+use mathlib.Core.Path.{refl, sym, ◌∙◌}
 use native.Mathlib.Omega.{arith}
 use native.Mathlib.Nat.{le_refl}
-use lib.ListN.{length, drop}
-use borrow.Author.Rules.{rules}
-use Rattle.sise_parser.specs.Lexer.{between}
-use Rattle.sise_parser.specs.Plain.{skip_blanks}
 use Rattle.sise_parser.proofs.Steps.{blanks_end}
 use Rattle.sise_parser.proofs.ByteSteps.{between_space, between_tab, blanks_space, blanks_tab, blanks_stop}
-use Rattle.sise_parser.proofs.lexer.skip_blanks.Invariants.{Skipped}
 use Rattle.sise_parser.proofs.lexer.skip_blanks.Goals as goal
 
 pub loop-at-init : goal.loop-at-init

@@ -4,15 +4,12 @@ use mathlib.Core.List.{List}
 use Prim.Native.Nat.{ℕ, ◌+◌}
 use native.Mathlib.Omega.{arith}
 use lib.ListN.{length-drop}
-use borrow.Author.Rules.{rules}
 use Rattle.sise_util.specs.Utf8.{character}
 use Rattle.sise_util.specs.declared.utf8.Character.TheVariants.{Well, Ill}
 use Rattle.sise_util.proofs.Utf8Laws.{size_fits, broken_fits}
 use Rattle.sise_parser.specs.Refusals.{refusal, Refusal}
 use Rattle.sise_parser.specs.Lexer.{bad, wrong}
 use Rattle.sise_parser.proofs.lexer.wrong_chr.Goals as goal
-
-
 
 wrong_well : (n p c k : ℕ) (l : List ℕ) → character l ≡ Well c k → wrong n l p ≡ bad (refusal n p c) (p + k)
 unfolding wrong

@@ -1,9 +1,7 @@
 -- `sise_parser::atom_bytes` meets its contract: the part lies in the text exactly if its end does.
 use mathlib.Core.Path.{sym}
-use mathlib.Core.Logic.{⊎_elim}
 use native.Mathlib.Omega.{arith}
-use borrow.Author.Rules.{rules}
-use borrow.Author.Tests.{ltb-true, ltb-false}
+use borrow.Author.Tests.{ltb-false}
 use Rattle.sise_parser.proofs.Parts.{part_outside, part_by_ends}
 use Rattle.sise_parser.proofs.reader.atom_bytes.Goals as goal
 use Rattle.sise_parser.proofs.reader.atom_bytes.Goals.{then-text-place-via-then-text-place, then-text-place-via-else-text-place+then-text-place-2}

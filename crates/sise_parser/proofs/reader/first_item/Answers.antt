@@ -1,14 +1,11 @@
 -- `sise_parser::first_item` meets its contract, token by token.
 use mathlib.Core.Path.{◌≡◌, sym, ap, ◌∙◌}
 use Prim.Native.Nat.{ℕ}
-use borrow.Author.Rules.{rules}
 use Rattle.sise_parser.specs.Lexer.{found}
 use Rattle.sise_parser.specs.Reader.{in_beginning}
 use Rattle.sise_parser.specs.Meaning.{token_as}
 use Rattle.sise_parser.specs.declared.lexer.Token.{Token}
 use Rattle.sise_parser.proofs.reader.first_item.Goals as goal
-
-
 
 known : {t u : Token} (n s p : ℕ) → t ≡ u → in_beginning n (found (token_as u) s p) ≡ in_beginning n (found (token_as t) s p)
 known n s p e = ap (λ (v : Token). in_beginning n (found (token_as v) s p)) (sym e)

@@ -1,7 +1,6 @@
 -- `sise_parser::inner_item` meets its contract, token by token; a `)` closes the last list or another.
 use mathlib.Core.Path.{◌≡◌, sym, ap, ◌∙◌}
 use Prim.Native.Nat.{ℕ, ◌-◌}
-use borrow.Author.Rules.{rules}
 use borrow.Author.Tests.{eq-eqb, ne_eqb}
 use Rattle.sise_parser.specs.Lexer.{found, closing}
 use Rattle.sise_parser.specs.Reader.{next, reader, item, in_parsing}
@@ -10,8 +9,6 @@ use Rattle.sise_parser.specs.declared.lexer.Token.{Token}
 use Rattle.sise_parser.specs.declared.reader.Phase.TheVariants.{Parsing, Finishing}
 use Rattle.sise_parser.specs.declared.reader.ParsedItem.TheVariants.{ListEnd}
 use Rattle.sise_parser.proofs.reader.inner_item.Goals as goal
-
-
 
 known : {t u : Token} (n s p : ℕ) → t ≡ u → in_parsing n (found (token_as u) s p) ≡ in_parsing n (found (token_as t) s p)
 known n s p e = ap (λ (v : Token). in_parsing n (found (token_as v) s p)) (sym e)

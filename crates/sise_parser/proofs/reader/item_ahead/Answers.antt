@@ -1,8 +1,6 @@
 -- `sise_parser::item_ahead` meets its contract: refusals 11 and 9 first, then what the token behind the blanks gives in the phase.
 use mathlib.Core.Path.{sym, ap, ◌∙◌}
 use native.Mathlib.Omega.{arith}
-use borrow.Author.Rules.{rules}
-use borrow.Author.Tests.{not-true, not-false}
 use Rattle.sise_parser.specs.Reader.{token_at}
 use Rattle.sise_parser.specs.Meaning.{lexed_as}
 use Rattle.sise_parser.proofs.Calls.{parsing_lists, is_parsing, next_unsound, next_finishing, next_beginning, next_parsing, next_bad}

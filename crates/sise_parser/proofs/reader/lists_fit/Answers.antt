@@ -1,12 +1,9 @@
 -- `sise_parser::lists_fit` meets its contract, phase by phase.
 use mathlib.Core.Path.{◌≡◌, sym, ap}
 use Prim.Native.Nat.{ℕ}
-use borrow.Author.Rules.{rules}
 use Rattle.sise_parser.specs.Reader.{lists_fit}
 use Rattle.sise_parser.specs.declared.reader.Phase.{Phase}
 use Rattle.sise_parser.proofs.reader.lists_fit.Goals as goal
-
-
 
 known : {f g : Phase} (n : ℕ) → f ≡ g → lists_fit g n ≡ lists_fit f n
 known n e = ap (λ (h : Phase). lists_fit h n) (sym e)

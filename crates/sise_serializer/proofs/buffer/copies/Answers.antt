@@ -1,6 +1,6 @@
 -- A uniform src is filled in at once. Else, before each turn the buffer has k copies of src pasted at `at`, which end at `to`; each turn leaves one copy less
 -- to go.
-use Prim.Native.Nat.{ℕ, ◌+◌, ◌-◌, ◌*◌, ◌≤◌, ◌<◌}
+use Prim.Native.Nat.{ℕ, ◌+◌, ◌*◌, ◌≤◌, ◌<◌}
 use native.Mathlib.Nat.{mul-le-mul_right, suc-mul}
 use native.Mathlib.Omega.{arith}
 use mathlib.Core.Path.{◌≡◌, refl, sym, ap, ◌∙◌}
@@ -10,8 +10,6 @@ use borrow.Author.Rules.{rules}
 use Rattle.sise_serializer.specs.Bytes.{pasted, repeat}
 use Rattle.sise_serializer.proofs.Bytes.{pasted_none, pasted_again, repeat_length, repeat_length_more, repeat_repeat}
 use Rattle.sise_serializer.proofs.buffer.copies.Goals as goal
-
-
 
 -- copies of a uniform src
 uniform : (n : ℕ) (s : List ℕ) → s ≡ repeat (length s) (get_or s 0 0 ∷ []) → repeat (n * length s) (get_or s 0 0 ∷ []) ≡ repeat n s

@@ -1,14 +1,9 @@
 -- A uniform src is filled in at once. Else, before each turn the buffer has k copies of src pasted at `at`, which end at `to`; each turn leaves one copy less
 -- to go.
-use Prim.Native.Nat.{ℕ, ◌+◌, ◌-◌, ◌*◌, ◌≤◌}
-use native.Mathlib.Nat.{mul-le-mul_right, suc-mul}
-use native.Mathlib.Omega.{arith}
-use mathlib.Core.Path.{◌≡◌, refl, sym, ap, ◌∙◌}
-use mathlib.Core.List.{List, [], ◌∷◌}
-use lib.ListN.{length, get_or}
-use borrow.Author.Rules.{rules}
+use Prim.Native.Nat.{◌+◌, ◌-◌, ◌≤◌}
+use mathlib.Core.Path.{◌≡◌}
+use lib.ListN.{length}
 use Rattle.sise_serializer.specs.Bytes.{pasted, repeat}
-use Rattle.sise_serializer.proofs.Bytes.{pasted_none, pasted_again, repeat_length, repeat_length_more, repeat_repeat}
 use Rattle.sise_serializer.proofs.buffer.copies.Given as goal
 
 abbrev pub invariant-loop-k : goal.invariant-loop-k

@@ -1,11 +1,9 @@
 -- One byte is stored. Else, before each turn the buffer, of the same length, has the first i bytes of src pasted at `at`; each turn leaves one byte less to go.
-use Prim.Native.Nat.{◌-◌, ◌≤◌}
 use native.Mathlib.Numerals.{add-one}
 use native.Mathlib.Omega.{arith}
 use mathlib.Core.Path.{◌≡◌, refl, ◌∙◌}
 use lib.ListN.{length, length-set}
-use lib.Seq.{paste, paste-zero, paste-suc}
-use borrow.Author.Rules.{rules}
+use lib.Seq.{paste-zero, paste-suc}
 use Rattle.sise_serializer.proofs.Bytes.{pasted_paste, pasted_single}
 use Rattle.sise_serializer.proofs.buffer.copy.Goals as goal
 

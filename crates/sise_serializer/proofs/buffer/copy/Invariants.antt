@@ -1,12 +1,8 @@
 -- One byte is stored. Else, before each turn the buffer, of the same length, has the first i bytes of src pasted at `at`; each turn leaves one byte less to go.
 use Prim.Native.Nat.{◌-◌, ◌≤◌}
-use native.Mathlib.Numerals.{add-one}
-use native.Mathlib.Omega.{arith}
-use mathlib.Core.Path.{◌≡◌, refl, ◌∙◌}
-use lib.ListN.{length, length-set}
-use lib.Seq.{paste, paste-zero, paste-suc}
-use borrow.Author.Rules.{rules}
-use Rattle.sise_serializer.proofs.Bytes.{pasted_paste, pasted_single}
+use mathlib.Core.Path.{◌≡◌}
+use lib.ListN.{length}
+use lib.Seq.{paste}
 use Rattle.sise_serializer.proofs.buffer.copy.Given as goal
 
 abbrev pub invariant-loop-i : goal.invariant-loop-i

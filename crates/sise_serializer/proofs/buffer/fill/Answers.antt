@@ -1,15 +1,12 @@
 -- Before each turn the buffer has k of the bytes pasted at `at`; each turn leaves one less to go.
-use Prim.Native.Nat.{ℕ, ◌+◌, ◌-◌, ◌≤◌, ◌<◌}
+use Prim.Native.Nat.{ℕ, ◌+◌, ◌<◌}
 use native.Mathlib.Omega.{arith}
 use mathlib.Core.Path.{◌≡◌, refl, sym, ap, ◌∙◌}
 use mathlib.Core.List.{List, [], ◌∷◌}
 use lib.ListN.{length, set, length-set}
-use borrow.Author.Rules.{rules}
 use Rattle.sise_serializer.specs.Bytes.{pasted, repeat}
 use Rattle.sise_serializer.proofs.Bytes.{pasted_none, pasted_one, pasted_again, repeat_length}
 use Rattle.sise_serializer.proofs.buffer.fill.Goals as goal
-
-
 
 -- one more
 more : (l m : List ℕ) (at k b : ℕ) → m ≡ pasted l at (repeat k (b ∷ [])) → length m ≡ length l → at + k < length l → set m (at + k) b ≡ pasted l at (repeat (k + 1) (b ∷ []))

@@ -1,12 +1,9 @@
 -- Before each turn the buffer has k of the bytes pasted at `at`; each turn leaves one less to go.
-use Prim.Native.Nat.{ℕ, ◌+◌, ◌-◌, ◌≤◌, ◌<◌}
-use native.Mathlib.Omega.{arith}
-use mathlib.Core.Path.{◌≡◌, refl, sym, ap, ◌∙◌}
-use mathlib.Core.List.{List, [], ◌∷◌}
-use lib.ListN.{length, set, length-set}
-use borrow.Author.Rules.{rules}
+use Prim.Native.Nat.{◌-◌, ◌≤◌}
+use mathlib.Core.Path.{◌≡◌}
+use mathlib.Core.List.{[], ◌∷◌}
+use lib.ListN.{length}
 use Rattle.sise_serializer.specs.Bytes.{pasted, repeat}
-use Rattle.sise_serializer.proofs.Bytes.{pasted_none, pasted_one, pasted_again, repeat_length}
 use Rattle.sise_serializer.proofs.buffer.fill.Given as goal
 
 abbrev pub invariant-loop-k : goal.invariant-loop-k

@@ -1,7 +1,6 @@
 -- Each test that fails bounds the sum from below, and the last one decides; past all of them no sum or product wraps.
 use native.Mathlib.Omega.{arith}
 use mathlib.Core.Path.{sym, ◌∙◌}
-use borrow.Author.Rules.{rules}
 use borrow.Author.Tests.{leb-true, leb-false}
 use Rattle.sise_serializer.proofs.Spots.{spot_at, spot_none}
 use Rattle.sise_serializer.proofs.buffer.find_spot.Goals as goal

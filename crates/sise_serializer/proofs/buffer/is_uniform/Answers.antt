@@ -1,5 +1,5 @@
 -- Before each turn the first k bytes are the first byte, k times; so are all at the end.
-use Prim.Native.Nat.{ℕ, ◌+◌, ◌-◌, ◌≤◌, ◌<◌}
+use Prim.Native.Nat.{ℕ, ◌+◌, ◌<◌}
 use native.Mathlib.Numerals.{add-one}
 use native.Mathlib.Omega.{arith}
 use mathlib.Core.Path.{◌≡◌, refl, sym, ap, ◌∙◌}
@@ -7,7 +7,6 @@ use mathlib.Core.Bool.{false≢true}
 use mathlib.Core.List.{List, [], ◌∷◌, ◌++◌}
 use lib.ListN.{length, get_or, take}
 use lib.Seq.{take_all, take-suc}
-use borrow.Author.Rules.{rules}
 use Rattle.sise_serializer.specs.Bytes.{repeat}
 use Rattle.sise_serializer.proofs.Bytes.{repeat_more}
 use Rattle.sise_serializer.proofs.buffer.is_uniform.Invariants.{one}
@@ -32,7 +31,7 @@ loop-k-preserved c = let l = c.loop-k in (next _ l.k c.loop-k-test.true c.if-src
 
 pub returns : goal.returns
 returns c =
-    λ e.     let l = c.loop-k in
+    λ e. let l = c.loop-k in
     let s = c.args.src.now in
     let all : l.k ≡ length s = omega (arith, l.invariant.1, c.loop-k-test.false) in
     (omega (arith, c.if-src-eq0.false), sym (take_all l.k s (omega arith)) ∙ rw (← all) l.invariant.0)

@@ -1,18 +1,10 @@
 -- Before each turn the first k bytes are the first byte, k times; so are all at the end.
-use Prim.Native.Nat.{ℕ, ◌+◌, ◌-◌, ◌≤◌, ◌<◌}
-use native.Mathlib.Numerals.{add-one}
-use native.Mathlib.Omega.{arith}
-use mathlib.Core.Path.{◌≡◌, refl, sym, ap, ◌∙◌}
-use mathlib.Core.Bool.{false≢true}
-use mathlib.Core.List.{List, [], ◌∷◌, ◌++◌}
+use Prim.Native.Nat.{ℕ, ◌-◌, ◌≤◌}
+use mathlib.Core.Path.{◌≡◌}
+use mathlib.Core.List.{List, [], ◌∷◌}
 use lib.ListN.{length, get_or, take}
-use lib.Seq.{take_all, take-suc}
-use borrow.Author.Rules.{rules}
 use Rattle.sise_serializer.specs.Bytes.{repeat}
-use Rattle.sise_serializer.proofs.Bytes.{repeat_more}
 use Rattle.sise_serializer.proofs.buffer.is_uniform.Given as goal
-
-
 
 -- the first byte, alone
 abbrev pub one : List ℕ → List ℕ

@@ -1,7 +1,6 @@
 -- The tests of the code say whether the bytes have room.
 use native.Mathlib.Omega.{arith}
 use mathlib.Core.Path.{sym, ◌∙◌}
-use borrow.Author.Rules.{rules}
 use Rattle.sise_serializer.proofs.Bytes.{pasted_if_lem, pasted_not}
 use Rattle.sise_serializer.proofs.buffer.paste.Goals as goal
 

@@ -2,7 +2,6 @@
 use native.Mathlib.Omega.{arith}
 use mathlib.Core.Path.{sym, ◌∙◌}
 use mathlib.Core.List.{◌++◌}
-use borrow.Author.Rules.{rules}
 use borrow.Author.Tests.{leb-true, leb-false}
 use Rattle.sise_serializer.specs.Bytes.{repeat}
 use Rattle.sise_serializer.proofs.Bytes.{layout_length, pasted_if_lem, pasted_not}

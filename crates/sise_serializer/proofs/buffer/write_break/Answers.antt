@@ -1,6 +1,5 @@
 -- The bytes of the line break, or none.
 use mathlib.Core.Path.{sym}
-use borrow.Author.Rules.{rules}
 use Rattle.sise_serializer.proofs.Bytes.{pasted_none}
 use Rattle.sise_serializer.proofs.buffer.write_break.Goals as goal
 

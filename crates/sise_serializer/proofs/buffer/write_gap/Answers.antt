@@ -1,8 +1,6 @@
 -- One byte, or none.
 use native.Mathlib.Omega.{arith}
 use mathlib.Core.Path.{sym}
-use borrow.Author.Rules.{rules}
-use borrow.Author.Tests.{not-true, not-false}
 use Rattle.sise_serializer.proofs.Bytes.{pasted_one, pasted_none}
 use Rattle.sise_serializer.proofs.buffer.write_gap.Goals as goal
 

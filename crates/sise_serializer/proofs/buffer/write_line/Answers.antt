@@ -2,7 +2,6 @@
 use native.Mathlib.Omega.{arith}
 use mathlib.Core.Path.{◌∙◌}
 use lib.ListN.{length-append}
-use borrow.Author.Rules.{rules}
 use Rattle.sise_serializer.specs.Bytes.{repeat}
 use Rattle.sise_serializer.proofs.Bytes.{layout_length, pasted_more}
 use Rattle.sise_serializer.proofs.buffer.write_line.Goals as goal

@@ -2,7 +2,6 @@
 use native.Mathlib.Omega.{arith}
 use mathlib.Core.Path.{sym}
 use Rattle.sise_serializer.proofs.Running.{has_short, has_kind}
-use borrow.Author.Rules.{rules}
 use Rattle.sise_serializer.proofs.calls.has_call.Goals as goal
 
 pub returns-then-words-at : goal.returns-then-words-at

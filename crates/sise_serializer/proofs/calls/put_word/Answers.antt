@@ -1,7 +1,6 @@
 -- An offset is its own word; else the answer is a refusal, and its number is added.
 use Prim.Native.Nat.{ℕ, ◌+◌, ◌^◌}
 use mathlib.Core.Path.{ap, ◌∙◌}
-use borrow.Author.Rules.{rules}
 use Rattle.sise_serializer.proofs.Running.{refusal_word}
 use borrow.Enum.Refused.{opened}
 use Rattle.sise_serializer.proofs.calls.put_word.Goals as goal

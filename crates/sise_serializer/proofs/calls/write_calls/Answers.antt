@@ -1,6 +1,5 @@
 -- From a fresh record write_calls_from runs all calls.
 use Rattle.sise_serializer.proofs.Running.{fresh_runs}
-use borrow.Author.Rules.{rules}
 use Rattle.sise_serializer.proofs.calls.write_calls.Goals as goal
 
 pub returns : goal.returns

@@ -1,12 +1,8 @@
 -- Before each turn, running what is left of the words from here leaves what running all of them leaves; each turn leaves one answer less to go.
 use Prim.Native.Nat.{◌-◌}
-use mathlib.Core.Path.{sym, ap, ◌∙◌}
 use lib.ListN.{length}
-use Rattle.sise_serializer.specs.Words.{answer_word}
 use Rattle.sise_serializer.specs.Serializer.{style}
-use Rattle.sise_serializer.proofs.Running.{Left, start, none_runs, full, stopped, has_room, on}
-use borrow.Author.Rules.{rules}
-use borrow.Author.Tests.{not-true, not-false}
+use Rattle.sise_serializer.proofs.Running.{Left}
 use Rattle.sise_serializer.proofs.calls.write_calls_from.Given as goal
 
 abbrev pub invariant-loop-k : goal.invariant-loop-k

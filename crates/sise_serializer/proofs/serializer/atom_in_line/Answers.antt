@@ -5,12 +5,10 @@ use native.Mathlib.Omega.{arith}
 use mathlib.Core.Path.{◌≡◌, refl, sym, ◌∙◌}
 use mathlib.Core.Bool.{false}
 use lib.ListN.{length}
-use Rattle.sise_serializer.specs.Serializer.{Piece}
 use Rattle.sise_serializer.specs.Parts.{gap_bytes, in_line, spot_of}
 use Rattle.sise_serializer.proofs.Spots.{found, spot_as}
 use Rattle.sise_serializer.proofs.Tests.{gap_short}
 use Rattle.sise_serializer.proofs.Does.{placed_behind, full}
-use borrow.Author.Rules.{rules}
 use Rattle.sise_serializer.proofs.serializer.atom_in_line.Goals as goal
 
 pub write_gap-requires : goal.write_gap-requires

@@ -5,11 +5,10 @@ use native.Mathlib.Omega.{arith}
 use mathlib.Core.Path.{◌≡◌, sym, ◌∙◌}
 use mathlib.Core.Bool.{false}
 use mathlib.Core.List.{[]}
-use Rattle.sise_serializer.specs.Serializer.{Piece, style, close_as}
+use Rattle.sise_serializer.specs.Serializer.{style, close_as}
 use Rattle.sise_serializer.proofs.Bytes.{pasted_one}
 use Rattle.sise_serializer.proofs.Spots.{found}
 use Rattle.sise_serializer.proofs.Does.{placed, full}
-use borrow.Author.Rules.{rules}
 use Rattle.sise_serializer.proofs.serializer.close_in_line.Goals as goal
 
 pub bounds-buf-at : goal.bounds-buf-at

@@ -4,7 +4,6 @@ use mathlib.Core.Path.{refl}
 use Rattle.sise_serializer.specs.Serializer.{close_as, end_in}
 use Rattle.sise_serializer.proofs.Sound.{sound, small, writing_lists}
 use Rattle.sise_serializer.proofs.Does.{refused_does, end_in_lem, close_broken, close_unbroken}
-use borrow.Author.Rules.{rules}
 use Rattle.sise_serializer.proofs.serializer.close_list.Goals as goal
 
 pub returns-in-Beginning : goal.returns-in-Beginning

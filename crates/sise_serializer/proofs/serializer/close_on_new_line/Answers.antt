@@ -4,11 +4,10 @@ use native.Mathlib.Omega.{arith}
 use mathlib.Core.Path.{◌≡◌, refl, sym, ◌∙◌}
 use mathlib.Core.Bool.{true}
 use mathlib.Core.List.{[], ◌∷◌}
-use Rattle.sise_serializer.specs.Serializer.{Piece, style, new_line_of, close_as}
+use Rattle.sise_serializer.specs.Serializer.{style, new_line_of, close_as}
 use Rattle.sise_serializer.proofs.Bytes.{layout_length, pasted_one, pasted_behind}
 use Rattle.sise_serializer.proofs.Spots.{found, spot_as}
 use Rattle.sise_serializer.proofs.Does.{placed, full}
-use borrow.Author.Rules.{rules}
 use Rattle.sise_serializer.proofs.serializer.close_on_new_line.Goals as goal
 
 pub write_line-line_len-requires : goal.write_line-line_len-requires

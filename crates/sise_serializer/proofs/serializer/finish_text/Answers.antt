@@ -3,7 +3,6 @@ use mathlib.Core.Path.{refl}
 use Rattle.sise_serializer.specs.Serializer.{last, finish_in}
 use Rattle.sise_serializer.proofs.Sound.{small}
 use Rattle.sise_serializer.proofs.Does.{refused_does, finish_in_lem}
-use borrow.Author.Rules.{rules}
 use Rattle.sise_serializer.proofs.serializer.finish_text.Goals as goal
 
 pub returns-in-Beginning : goal.returns-in-Beginning

@@ -5,7 +5,6 @@ use mathlib.Core.Path.{sym, ◌∙◌}
 use Rattle.sise_serializer.specs.Serializer.{first_atom}
 use Rattle.sise_serializer.proofs.Spots.{found}
 use Rattle.sise_serializer.proofs.Does.{placed, full}
-use borrow.Author.Rules.{rules}
 use Rattle.sise_serializer.proofs.serializer.first_atom.Goals as goal
 
 pub copy-requires : goal.copy-requires

@@ -6,7 +6,6 @@ use Rattle.sise_serializer.specs.Serializer.{first_list}
 use Rattle.sise_serializer.proofs.Bytes.{pasted_one}
 use Rattle.sise_serializer.proofs.Spots.{found}
 use Rattle.sise_serializer.proofs.Does.{placed, full}
-use borrow.Author.Rules.{rules}
 use Rattle.sise_serializer.proofs.serializer.first_list.Goals as goal
 
 pub bounds-buf-at : goal.bounds-buf-at

@@ -2,7 +2,6 @@
 use mathlib.Core.Path.{ap, ◌∙◌}
 use Rattle.sise_util.specs.Atom.{is_kind}
 use Rattle.sise_util.proofs.KindLaws.{kind_atom}
-use borrow.Author.Rules.{rules}
 use Rattle.sise_serializer.proofs.serializer.is_atom.Goals as goal
 
 pub returns : goal.returns

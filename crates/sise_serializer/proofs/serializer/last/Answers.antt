@@ -6,12 +6,11 @@ use native.Mathlib.Omega.{arith}
 use mathlib.Core.Path.{◌≡◌, refl, sym, ◌∙◌}
 use mathlib.Core.List.{[], append-nil}
 use lib.ListN.{length}
-use Rattle.sise_serializer.specs.Serializer.{Piece, style, last}
+use Rattle.sise_serializer.specs.Serializer.{style, last}
 use Rattle.sise_serializer.specs.Parts.{spot_of, break_bytes}
 use Rattle.sise_serializer.proofs.Spots.{found, spot_as}
 use Rattle.sise_serializer.proofs.Tests.{one_at_most}
 use Rattle.sise_serializer.proofs.Does.{placed, full, counted}
-use borrow.Author.Rules.{rules}
 use Rattle.sise_serializer.proofs.serializer.last.Goals as goal
 
 pub write_break-requires : goal.write_break-requires

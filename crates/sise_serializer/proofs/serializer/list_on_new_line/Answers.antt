@@ -3,11 +3,10 @@ use native.Mathlib.Omega.{arith}
 use mathlib.Core.Path.{refl, sym, ◌∙◌}
 use mathlib.Core.Bool.{true}
 use mathlib.Core.List.{[], ◌∷◌}
-use Rattle.sise_serializer.specs.Serializer.{Piece, style, new_line, laid, inner_as}
+use Rattle.sise_serializer.specs.Serializer.{style, new_line, laid, inner_as}
 use Rattle.sise_serializer.proofs.Bytes.{layout_length, pasted_one}
 use Rattle.sise_serializer.proofs.Spots.{found, spot_as}
 use Rattle.sise_serializer.proofs.Does.{placed_behind, full}
-use borrow.Author.Rules.{rules}
 use Rattle.sise_serializer.proofs.serializer.list_on_new_line.Goals as goal
 
 pub write_line-line-requires : goal.write_line-line-requires

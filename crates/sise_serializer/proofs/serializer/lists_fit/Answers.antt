@@ -1,5 +1,4 @@
 -- In each phase, the test of the definition.
-use borrow.Author.Rules.{rules}
 use Rattle.sise_serializer.proofs.serializer.lists_fit.Goals as goal
 
 pub returns-in-Beginning : goal.returns-in-Beginning

@@ -3,7 +3,6 @@ use mathlib.Core.Path.{refl}
 use Rattle.sise_serializer.specs.Serializer.{begin_in}
 use Rattle.sise_serializer.proofs.Sound.{small}
 use Rattle.sise_serializer.proofs.Does.{refused_does, begin_in_lem, new_line_is, in_line_is}
-use borrow.Author.Rules.{rules}
 use Rattle.sise_serializer.proofs.serializer.open_list.Goals as goal
 
 pub returns-in-Beginning : goal.returns-in-Beginning

@@ -2,12 +2,10 @@
 -- past its test it is an atom
 use mathlib.Core.Path.{◌≡◌, refl, sym, ◌∙◌}
 use mathlib.Core.Bool.{true}
-use borrow.Author.Tests.{not-true, not-false}
 use Rattle.sise_util.specs.Atom.{is_atom}
 use Rattle.sise_serializer.specs.Serializer.{put_in}
 use Rattle.sise_serializer.proofs.Sound.{small}
 use Rattle.sise_serializer.proofs.Does.{refused_does, put_no_atom, put_in_lem, new_line_is, in_line_is}
-use borrow.Author.Rules.{rules}
 use Rattle.sise_serializer.proofs.serializer.write_atom.Goals as goal
 
 pub returns-then-not-is_atom : goal.returns-then-not-is_atom

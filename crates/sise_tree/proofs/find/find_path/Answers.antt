@@ -1,12 +1,8 @@
 -- Before each turn, going on from the node that is due gives the whole path's answer, and no more nodes were looked at than stand before it; each turn goes
 -- forward by one node at least.
-use Prim.Native.Nat.{◌-◌, ◌/◌}
 use native.Mathlib.Omega.{arith}
 use mathlib.Core.Path.{sym, ◌∙◌}
-use lib.ListN.{length}
-use borrow.Author.Rules.{rules}
-use borrow.Author.Tests.{not-true, not-false}
-use Rattle.sise_tree.proofs.FindLaws.{Going, too_long, going_root, going_outside, going_stuck, going_past, going_found, going_atom, going_none, going_child}
+use Rattle.sise_tree.proofs.FindLaws.{too_long, going_root, going_outside, going_stuck, going_past, going_found, going_atom, going_none, going_child}
 use Rattle.sise_tree.proofs.find.find_path.Goals as goal
 
 pub returns-then-text-gt-LONGEST : goal.returns-then-text-gt-LONGEST

@@ -2,7 +2,6 @@
 use native.Mathlib.Omega.{arith}
 use mathlib.Core.Path.{◌∙◌}
 use lib.ListN.{length-set}
-use borrow.Author.Rules.{rules}
 use Rattle.sise_tree.proofs.FillingParts.{closing, closed_attachable, closes_set}
 use Rattle.sise_tree.proofs.parse.close_list.Goals as goal
 

@@ -1,6 +1,5 @@
 -- The root has no list to count it; else the list's second word grows by one, which is what one child more makes of the words.
 use native.Mathlib.Omega.{arith}
-use borrow.Author.Rules.{rules}
 use Rattle.sise_tree.proofs.FillingParts.{attaches_none, counting, attaches_set}
 use Rattle.sise_tree.proofs.parse.count_child.Goals as goal
 

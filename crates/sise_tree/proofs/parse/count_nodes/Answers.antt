@@ -1,11 +1,9 @@
 -- Plain tokens are counted on; each other way through the loop is one law of the counting's state; the position, which each item moves, measures what is left.
-use Prim.Native.Nat.{ℕ, ◌-◌}
+use Prim.Native.Nat.{ℕ}
 use native.Mathlib.Omega.{arith}
 use mathlib.Core.Path.{ap, ◌∙◌, subst}
 use mathlib.Core.List.{List}
 use mathlib.Core.Logic.{⊎_elim}
-use lib.ListN.{length}
-use borrow.Author.Rules.{rules}
 use Rattle.sise_parser.specs.Meaning.{answer_as}
 use Rattle.sise_parser.specs.declared.reader.Reader.{Reader}
 use Rattle.sise_parser.specs.declared.reader.Answer.{Answer}

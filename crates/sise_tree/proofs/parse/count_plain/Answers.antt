@@ -4,16 +4,14 @@ use native.Mathlib.Nat.{le_refl}
 use native.Mathlib.Omega.{arith}
 use mathlib.Core.Path.{◌≡◌, sym, ◌∙◌}
 use mathlib.Core.List.{List}
-use lib.ListN.{length, drop}
-use borrow.Author.Rules.{rules}
+use lib.ListN.{drop}
 use borrow.Author.Tests.{eqb-false}
 use Rattle.sise_parser.specs.Lexer.{found, opening, closing, atom, between}
 use Rattle.sise_parser.proofs.ByteSteps.{between_open, between_close}
-use Rattle.sise_tree.specs.Filling.{CountsOn}
 use Rattle.sise_tree.specs.declared.parse.Counted.{Counted}
 use Rattle.sise_tree.proofs.ParseSteps.{plain_atom, plain_start, plain_end}
 use Rattle.sise_tree.proofs.Counting.{start_goes, atom_goes, list_goes}
-use Rattle.sise_tree.proofs.parse.count_plain.Invariants.{Run, counted}
+use Rattle.sise_tree.proofs.parse.count_plain.Invariants.{Run}
 use Rattle.sise_tree.proofs.parse.count_plain.Goals as goal
 
 module _ {text : List ℕ} {b : Counted} {p d n : ℕ} (v : Run text b p d n) {s : ℕ} (l : p ≤ s) where

@@ -1,21 +1,11 @@
 -- Each plain token is the item that the reader would give there, so the counting goes on by that item's law.
-use Prim.Native.Nat.{ℕ, ◌+◌, ◌-◌, ◌≤◌, ◌<◌}
-use native.Mathlib.Nat.{le_refl}
-use native.Mathlib.Omega.{arith}
-use mathlib.Core.Path.{◌≡◌, sym, ◌∙◌}
+use Prim.Native.Nat.{ℕ, ◌-◌, ◌≤◌}
+use mathlib.Core.Path.{◌≡◌}
 use mathlib.Core.List.{List}
-use lib.ListN.{length, drop}
-use borrow.Author.Rules.{rules}
-use borrow.Author.Tests.{eqb-false}
-use Rattle.sise_parser.specs.Lexer.{found, opening, closing, atom, between}
-use Rattle.sise_parser.proofs.ByteSteps.{between_open, between_close}
+use lib.ListN.{length}
 use Rattle.sise_tree.specs.Filling.{CountsOn}
 use Rattle.sise_tree.specs.declared.parse.Counted.{Counted}
-use Rattle.sise_tree.proofs.ParseSteps.{plain_atom, plain_start, plain_end}
-use Rattle.sise_tree.proofs.Counting.{start_goes, atom_goes, list_goes}
 use Rattle.sise_tree.proofs.parse.count_plain.Given as goal
-
-
 
 abbrev pub counted : ℕ → ℕ → ℕ → Counted
 counted p d n = record { position = p; depth = d; nodes = n }

@@ -1,13 +1,9 @@
 -- The loop's invariant: the table stands for the lists that are open. Plain tokens are filled on; the position, which each item moves, measures what is
 -- left.
-use Prim.Native.Nat.{ℕ, ◌-◌}
 use native.Mathlib.Omega.{arith}
 use mathlib.Core.Path.{◌∙◌}
 use mathlib.Core.Logic.{⊎_elim}
-use lib.ListN.{length}
-use borrow.Author.Rules.{rules}
-use Rattle.sise_tree.specs.ParseTree.{Frames, top}
-use Rattle.sise_tree.specs.Filling.{Fills}
+use Rattle.sise_tree.specs.ParseTree.{top}
 use Rattle.sise_tree.proofs.ReadSteps.{called, took}
 use Rattle.sise_tree.proofs.ParseSteps.{lists_within}
 use Rattle.sise_tree.proofs.FillingLoop.{fills_none, never_refused, item_fits, fill_ends, fill_goes}

@@ -1,20 +1,14 @@
 -- Each plain token is the item that the reader would give there, so the filling goes on by that item's law.
-use Prim.Native.Nat.{ℕ, ◌-◌, ◌≤◌, ◌<◌}
+use Prim.Native.Nat.{ℕ, ◌≤◌, ◌<◌}
 use native.Mathlib.Nat.{le_refl}
 use native.Mathlib.Omega.{arith}
 use mathlib.Core.Path.{◌≡◌, refl, sym, ◌∙◌}
-use mathlib.Core.List.{List}
-use lib.ListN.{length}
-use borrow.Author.Rules.{rules}
 use borrow.Author.Tests.{eqb-false}
 use Rattle.sise_parser.proofs.ByteSteps.{between_open, between_close}
-use Rattle.sise_tree.specs.Filling.{FillsOn}
-use Rattle.sise_tree.specs.declared.parse.Filled.{Filled}
 use Rattle.sise_tree.proofs.ParseSteps.{depth_within}
 use Rattle.sise_tree.proofs.FillingTurns.{atom_room, start_room, end_closable, end_turns}
 use Rattle.sise_tree.proofs.PlainKinds.{plain_kind}
-use Rattle.sise_tree.proofs.FillingPlain.{filled, start_fits, start_on, end_fits, end_on, atom_fits, atom_on}
-use Rattle.sise_tree.proofs.parse.fill_plain.Invariants.{Run}
+use Rattle.sise_tree.proofs.FillingPlain.{start_fits, start_on, end_fits, end_on, atom_fits, atom_on}
 use Rattle.sise_tree.proofs.parse.fill_plain.Goals as goal
 
 later : {s q : ℕ} → s ≤ q → (q ≡ s → ⊥) → s < q

@@ -6,7 +6,6 @@ use native.Mathlib.Omega.{arith}
 use lib.ListN.{length, drop, length-drop}
 use lib.Seq.{take_all}
 use Rattle.sise_util.specs.Atom.{kind_number, kind_prefix}
-use borrow.Author.Rules.{rules}
 use Rattle.sise_tree.proofs.parse.kind_at.Goals as goal
 
 pub slice_bounds-check_atom_prefix-count : goal.slice_bounds-check_atom_prefix-count

@@ -1,5 +1,4 @@
 -- Each return is one case of what the counting gave.
-use borrow.Author.Rules.{rules}
 use Rattle.sise_tree.proofs.ParseCases.{parse_long, parse_stopped, parse_full, parse_fillable, parse_filled}
 use borrow.Enum.Refused.{opened}
 use Rattle.sise_tree.proofs.parse.parse_tree.Goals as goal

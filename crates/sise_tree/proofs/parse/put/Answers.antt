@@ -1,7 +1,6 @@
 -- The four writes, one after the other, are one change of the words.
 use native.Mathlib.Omega.{arith}
 use lib.ListN.{length-set}
-use borrow.Author.Rules.{rules}
 use Rattle.sise_tree.proofs.FillingLaws.{put_four}
 use Rattle.sise_tree.proofs.parse.put.Goals as goal
 

@@ -2,7 +2,6 @@
 use mathlib.Core.Path.{refl}
 use native.Mathlib.Omega.{arith}
 use Rattle.sise_tree.proofs.FillingTurns.{atom_ends, atom_room, atom_attachable, atom_turns}
-use borrow.Author.Rules.{rules}
 use Rattle.sise_tree.proofs.parse.put_atom.Goals as goal
 
 pub overflow_sub-len : goal.overflow_sub-len

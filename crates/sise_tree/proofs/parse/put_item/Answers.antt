@@ -1,7 +1,6 @@
 -- Each arm writes its item, by the item's own law.
 use native.Mathlib.Omega.{arith}
 use Rattle.sise_tree.proofs.FillingTurns.{atom_ends, atom_fits, atom_shows, atom_room, start_room, start_fits, start_shows, end_closable, end_turns}
-use borrow.Author.Rules.{rules}
 use Rattle.sise_tree.proofs.parse.put_item.Goals as goal
 
 pub kind_at-kind-requires : goal.kind_at-kind-requires

@@ -2,7 +2,6 @@
 use mathlib.Core.Path.{refl}
 use native.Mathlib.Omega.{arith}
 use Rattle.sise_tree.proofs.FillingTurns.{start_room, start_back, start_turns}
-use borrow.Author.Rules.{rules}
 use Rattle.sise_tree.proofs.parse.put_start.Goals as goal
 
 pub overflow_sub-next : goal.overflow_sub-next

@@ -1,6 +1,5 @@
 -- Each arm is a case of the definition.
 use mathlib.Core.Path.{sym, ap}
-use borrow.Author.Rules.{rules}
 use Rattle.sise_parser.specs.Meaning.{answer_as}
 use Rattle.sise_parser.specs.declared.reader.Answer.{Answer}
 use Rattle.sise_tree.specs.Filling.{settled_as}

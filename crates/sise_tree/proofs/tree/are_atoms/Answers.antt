@@ -1,6 +1,4 @@
 -- The cases of `&&` and of the enum.
-use borrow.Author.Tests.{not-true, not-false}
-use borrow.Author.Rules.{rules}
 use Rattle.sise_tree.proofs.tree.are_atoms.Goals as goal
 
 pub returns-then-not-all : goal.returns-then-not-all

@@ -1,7 +1,6 @@
 -- Before each turn, as many nodes as are left to step over, and one more, stand from here on, and stepping over them leads to the same node.
-use mathlib.Core.Path.{◌≡◌, refl, sym, ◌∙◌}
+use mathlib.Core.Path.{refl, sym, ◌∙◌}
 use borrow.Author.Rules.{rules}
-use Rattle.sise_tree.specs.Parts.{stepped, MoreThan}
 use Rattle.sise_tree.proofs.PathLaws.{opened, more_step, stepped_on, stepped_none}
 use Rattle.sise_tree.proofs.tree.child.Goals as goal
 

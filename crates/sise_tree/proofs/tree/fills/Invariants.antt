@@ -1,12 +1,8 @@
 -- Before each turn, what is left to step over has the whole's answer.
 use Prim.Native.Nat.{◌≤◌, ◌/◌}
-use native.Mathlib.Omega.{arith}
-use mathlib.Core.Path.{◌≡◌, refl, sym, ◌∙◌}
+use mathlib.Core.Path.{◌≡◌}
 use lib.ListN.{length}
-use borrow.Author.Tests.{not-true, not-false}
 use Rattle.sise_tree.specs.Tree.{fills_in}
-use Rattle.sise_tree.proofs.LocalSteps.{fills_outside, fills_done, fills_past, fills_stuck, fills_unlinked, fills_step}
-use borrow.Author.Rules.{rules}
 use Rattle.sise_tree.proofs.tree.fills.Given as goal
 
 abbrev pub invariant-loop-left : goal.invariant-loop-left

@@ -1,10 +1,7 @@
 -- Before each turn, going on from the node reached with the indices left gives the whole path's answer; each turn leaves one index less.
-use Prim.Native.Nat.{◌-◌}
-use mathlib.Core.Path.{sym, ◌∙◌}
-use lib.ListN.{length}
-use borrow.Author.Rules.{rules}
+use mathlib.Core.Path.{sym}
 use Rattle.sise_tree.proofs.HeldLaws.{not_none, some_held, none_held}
-use Rattle.sise_tree.proofs.PathLaws.{At, too_long, no_tree_lem, at_root, at_none, at_more, at_child, at_end_lem}
+use Rattle.sise_tree.proofs.PathLaws.{too_long, no_tree_lem, at_root, at_none, at_more, at_child, at_end_lem}
 use borrow.Enum.Refused.{opened}
 use Rattle.sise_tree.proofs.tree.index_path.Goals as goal
 

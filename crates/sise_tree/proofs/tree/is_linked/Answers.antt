@@ -3,9 +3,8 @@ use Prim.Native.Nat.{ℕ, ◌-◌}
 use native.Mathlib.Omega.{arith}
 use mathlib.Core.Path.{◌≡◌, sym, ap, ◌∙◌}
 use lib.Dec.{eqb}
-use borrow.Author.Tests.{eqb-true, eqb-false, not-true, not-false}
+use borrow.Author.Tests.{eqb-true, eqb-false}
 use Rattle.sise_tree.proofs.LocalSteps.{linked_none, linked_list}
-use borrow.Author.Rules.{rules}
 use Rattle.sise_tree.proofs.tree.is_linked.Goals as goal
 
 pub is_list-requires : goal.is_list-requires

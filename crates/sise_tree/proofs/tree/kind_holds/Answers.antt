@@ -1,6 +1,5 @@
 -- By the kind and its number: the word is compared with that number, or, for no atom, with 1 to 3.
 use Rattle.sise_tree.proofs.HeldLaws.{kind_same, kind_other, none_zero, none_large, none_fits}
-use borrow.Author.Rules.{rules}
 use Rattle.sise_tree.proofs.tree.kind_holds.Goals as goal
 
 pub returns-then-kind-number : goal.returns-then-kind-number

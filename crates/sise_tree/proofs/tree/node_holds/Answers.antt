@@ -1,7 +1,7 @@
 -- At each return the tests that led there are those of the definition, on the words that were read.
 use Prim.Native.Nat.{ℕ, ◌-◌, ◌/◌, ◌<◌}
 use native.Mathlib.Omega.{arith}
-use mathlib.Core.Path.{◌≡◌, sym, ap, ◌∙◌}
+use mathlib.Core.Path.{sym, ap, ◌∙◌}
 use mathlib.Core.Bool.{Bool, true}
 use mathlib.Core.List.{List}
 use lib.ListN.{length, drop, length-drop}
@@ -11,7 +11,6 @@ use Rattle.sise_util.specs.declared.util.AtomKind.{AtomKind}
 use Rattle.sise_tree.specs.Tree.{fits_kind, kind}
 use Rattle.sise_tree.specs.Held.{held_if}
 use Rattle.sise_tree.proofs.HeldLaws.{held_short, held_list, held_long, held_past, held_atom}
-use borrow.Author.Rules.{rules}
 use Rattle.sise_tree.proofs.tree.node_holds.Goals as goal
 
 pub returns-then-table-lt4 : goal.returns-then-table-lt4

@@ -1,14 +1,13 @@
 -- Each node of span 1 that is no list leaves one node less to step over, and one place on: what is left has the whole's answer.
 use Prim.Native.Nat.{ℕ, ◌+◌, ◌-◌, ◌≤◌, ◌<◌, ◌/◌}
 use native.Mathlib.Omega.{arith}
-use mathlib.Core.Path.{◌≡◌, refl, sym, ◌∙◌}
+use mathlib.Core.Path.{◌≡◌, sym, ◌∙◌}
 use mathlib.Core.Bool.{Bool, false}
 use mathlib.Core.List.{List}
 use lib.Dec.{eqb}
 use lib.ListN.{length}
-use borrow.Author.Tests.{ltb-true, eqb-false}
+use borrow.Author.Tests.{eqb-false}
 use Rattle.sise_tree.specs.Tree.{kind, span}
-use Rattle.sise_tree.specs.Parts.{SameFrom}
 use Rattle.sise_tree.proofs.LocalSteps.{linked_none, fills_step}
 use Rattle.sise_tree.proofs.tree.singles.Invariants.{Counted}
 use Rattle.sise_tree.proofs.tree.singles.Goals as goal

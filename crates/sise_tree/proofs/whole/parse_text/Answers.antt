@@ -4,7 +4,6 @@ use mathlib.Core.Path.{◌≡◌, refl, sym, ap, ◌∙◌, subst}
 use mathlib.Core.Bool.{Bool, cond, false≢true}
 use mathlib.Core.List.{List, [], ◌∷◌}
 use lib.ListN.{length}
-use borrow.Author.Rules.{rules}
 use borrow.Author.Tests.{lt-ltb, le-ltb, le-leb, lt-leb}
 use types.Run.{OneOf}
 use denote.Enum.Declared.{tag_of}
@@ -26,8 +25,6 @@ use Rattle.sise_tree.specs.declared.parse.TreeRead.{TreeRead}
 use Rattle.sise_tree.proofs.ParseCases.{not_nodes, is_answered, was_got, parse_fillable}
 use borrow.Enum.Refused.{opened}
 use Rattle.sise_tree.proofs.whole.parse_text.Goals as goal
-
-
 
 module _ (text words : List ℕ) where
   shown : {d e : ParsesText} {x : ParsedTree} {now : List ℕ} → d ≡ e → DoesParseText e x now → DoesParseText d x now

@@ -5,7 +5,6 @@ use Rattle.sise_serializer.specs.Serializer.{style}
 use Rattle.sise_serializer.proofs.Tests.{gap_short}
 use Rattle.sise_tree_writer.proofs.Made.{not_beginning}
 use Rattle.sise_tree_writer.proofs.Starting.{first_starts, in_line_starts, new_line_starts, none_starts}
-use borrow.Author.Rules.{rules}
 use borrow.Enum.Refused.{opened}
 use Rattle.sise_tree_writer.proofs.measure.first_offset.Goals as goal
 

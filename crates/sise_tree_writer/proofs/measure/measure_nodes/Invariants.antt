@@ -1,16 +1,10 @@
 -- Before each turn the calls left do as the whole does; a turn plans one call, and passes a node or closes a list.
 use Prim.Native.Nat.{ℕ, ◌+◌, ◌-◌, ◌*◌}
-use mathlib.Core.Path.{refl, sym, ap, ◌∙◌}
-use mathlib.Core.Bool.{false, false≢true}
+use mathlib.Core.Bool.{false}
 use mathlib.Core.List.{[]}
 use lib.ListN.{length}
-use Rattle.sise_serializer.specs.Serializer.{style, answer_as}
-use Rattle.sise_serializer.proofs.Sound.{small}
-use Rattle.sise_tree_writer.specs.declared.walk.Place.{Place}
-use Rattle.sise_tree_writer.proofs.Atoms.{root_there}
-use Rattle.sise_tree_writer.proofs.Walked.{Walking, walking_start, turn_there, turn_passable, turn_atom, turn_good, turn_off, turn_less, turn_on, walk_off, walk_all}
-use borrow.Author.Rules.{rules}
-use borrow.Enum.Refused.{opened}
+use Rattle.sise_serializer.specs.Serializer.{style}
+use Rattle.sise_tree_writer.proofs.Walked.{Walking}
 use Rattle.sise_tree_writer.proofs.measure.measure_nodes.Given as goal
 
 abbrev pub invariant-loop-left : goal.invariant-loop-left

@@ -1,5 +1,4 @@
 -- The two cases of `cond` in the definition: a list more, or none.
-use borrow.Author.Rules.{rules}
 use Rattle.sise_tree_writer.proofs.plan.added.Goals as goal
 
 pub returns-then-is_list : goal.returns-then-is_list

@@ -1,5 +1,4 @@
 -- The two cases of the definition.
-use borrow.Author.Rules.{rules}
 use Rattle.sise_tree_writer.proofs.plan.begun.Goals as goal
 
 pub returns-then-is_list : goal.returns-then-is_list

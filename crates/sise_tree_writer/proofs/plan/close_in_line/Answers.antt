@@ -6,7 +6,6 @@ use mathlib.Core.Bool.{false}
 use mathlib.Core.List.{[]}
 use Rattle.sise_serializer.specs.Serializer.{style, close_as}
 use Rattle.sise_tree_writer.proofs.Planned.{placed, full}
-use borrow.Author.Rules.{rules}
 use Rattle.sise_tree_writer.proofs.plan.close_in_line.Goals as goal
 
 pub returns-in-At : goal.returns-in-At

@@ -1,5 +1,5 @@
 -- The record has line break, indentations and `)` counted, or there is no room for them.
-use Prim.Native.Nat.{ℕ, ◌-◌, min}
+use Prim.Native.Nat.{◌-◌, min}
 use native.Mathlib.Omega.{arith}
 use mathlib.Core.Path.{◌≡◌, refl, sym, ◌∙◌}
 use mathlib.Core.Bool.{true}
@@ -7,7 +7,6 @@ use Rattle.sise_serializer.specs.Serializer.{style, close_as}
 use Rattle.sise_serializer.proofs.Bytes.{layout_length}
 use Rattle.sise_serializer.proofs.Spots.{found, spot_as}
 use Rattle.sise_tree_writer.proofs.Planned.{placed, full}
-use borrow.Author.Rules.{rules}
 use Rattle.sise_tree_writer.proofs.plan.close_on_new_line.Goals as goal
 
 pub overflow_mul-line_len : goal.overflow_mul-line_len

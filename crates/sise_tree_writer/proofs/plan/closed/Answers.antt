@@ -1,5 +1,4 @@
 -- The fields one by one; the phase is `phase_after`.
-use borrow.Author.Rules.{rules}
 use Rattle.sise_tree_writer.proofs.plan.closed.Goals as goal
 
 pub returns : goal.returns

@@ -2,7 +2,6 @@
 use mathlib.Core.Path.{refl}
 use Rattle.sise_serializer.proofs.Spots.{spot_as}
 use Rattle.sise_tree_writer.proofs.Planned.{first_placed, first_full}
-use borrow.Author.Rules.{rules}
 use Rattle.sise_tree_writer.proofs.plan.first_item.Goals as goal
 
 pub returns-in-At : goal.returns-in-At

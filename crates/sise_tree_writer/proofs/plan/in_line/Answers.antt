@@ -7,7 +7,6 @@ use Rattle.sise_tree_writer.specs.Planning.{token_of}
 use Rattle.sise_serializer.proofs.Spots.{found, spot_as}
 use Rattle.sise_serializer.proofs.Tests.{gap_short}
 use Rattle.sise_tree_writer.proofs.Planned.{placed, full}
-use borrow.Author.Rules.{rules}
 use Rattle.sise_tree_writer.proofs.plan.in_line.Goals as goal
 
 pub overflow_add-line : goal.overflow_add-line

@@ -6,7 +6,6 @@ use Rattle.sise_tree_writer.specs.Planning.{token_of}
 use Rattle.sise_serializer.proofs.Bytes.{layout_length}
 use Rattle.sise_serializer.proofs.Spots.{found, spot_as}
 use Rattle.sise_tree_writer.proofs.Planned.{placed, full}
-use borrow.Author.Rules.{rules}
 use Rattle.sise_tree_writer.proofs.plan.on_new_line.Goals as goal
 
 pub overflow_mul-line : goal.overflow_mul-line

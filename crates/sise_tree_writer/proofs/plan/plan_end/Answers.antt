@@ -5,7 +5,6 @@ use Rattle.sise_serializer.specs.Serializer.{close_as, end_in}
 use Rattle.sise_serializer.proofs.Sound.{sound, small, writing_lists}
 use Rattle.sise_serializer.proofs.Does.{end_in_lem, close_broken, close_unbroken}
 use Rattle.sise_tree_writer.proofs.Planned.{refused_plans}
-use borrow.Author.Rules.{rules}
 use Rattle.sise_tree_writer.proofs.plan.plan_end.Goals as goal
 
 pub returns-in-Beginning : goal.returns-in-Beginning

@@ -4,7 +4,6 @@ use Rattle.sise_serializer.specs.Serializer.{last, finish_in}
 use Rattle.sise_serializer.proofs.Sound.{small}
 use Rattle.sise_serializer.proofs.Does.{finish_in_lem}
 use Rattle.sise_tree_writer.proofs.Planned.{refused_plans}
-use borrow.Author.Rules.{rules}
 use Rattle.sise_tree_writer.proofs.plan.plan_finish.Goals as goal
 
 pub returns-in-Beginning : goal.returns-in-Beginning

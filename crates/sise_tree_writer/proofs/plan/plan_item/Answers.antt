@@ -2,7 +2,6 @@
 use mathlib.Core.Path.{refl}
 use Rattle.sise_serializer.proofs.Sound.{small}
 use Rattle.sise_tree_writer.proofs.Planned.{refused_plans, item_first, item_new_line, item_in_line, item_finished, item_done}
-use borrow.Author.Rules.{rules}
 use Rattle.sise_tree_writer.proofs.plan.plan_item.Goals as goal
 
 pub returns-in-Beginning : goal.returns-in-Beginning

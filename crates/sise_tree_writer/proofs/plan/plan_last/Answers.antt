@@ -8,7 +8,6 @@ use Rattle.sise_serializer.proofs.Spots.{spot_as}
 use Rattle.sise_serializer.proofs.Tests.{one_at_most}
 use Rattle.sise_serializer.proofs.Does.{counted}
 use Rattle.sise_tree_writer.proofs.Planned.{placed, full}
-use borrow.Author.Rules.{rules}
 use Rattle.sise_tree_writer.proofs.plan.plan_last.Goals as goal
 
 pub overflow_add-breaks : goal.overflow_add-breaks

@@ -1,5 +1,4 @@
 -- The record made anew is the record.
-use borrow.Author.Rules.{rules}
 use Rattle.sise_tree_writer.proofs.plan.refused.Goals as goal
 
 pub returns : goal.returns

@@ -1,6 +1,5 @@
 -- What one call refuses, the commit refuses. Else the size is compared: if it is another one, that is 23; if it is the same, the tree is written.
 use mathlib.Core.Path.{refl, sym, ap, ◌∙◌}
-use borrow.Author.Tests.{not-true, not-false}
 use Rattle.sise_serializer.specs.Serializer.{style}
 use Rattle.sise_tree_writer.specs.Answers.{put_as}
 use Rattle.sise_tree_writer.specs.SerializeTree.{tree_calls, serialize_tree}
@@ -8,7 +7,6 @@ use Rattle.sise_tree_writer.specs.Sizes.{measured_as}
 use Rattle.sise_tree_writer.proofs.Measuring.{not_at, tree_kept}
 use Rattle.sise_tree_writer.proofs.Accepting.{tree_writable, tree_made}
 use Rattle.sise_tree_writer.proofs.Sizes.{can_measure, does_refused, does_changed, does_same}
-use borrow.Author.Rules.{rules}
 use borrow.Enum.Refused.{opened}
 use Rattle.sise_tree_writer.proofs.serialize.commit_tree.Goals as goal
 

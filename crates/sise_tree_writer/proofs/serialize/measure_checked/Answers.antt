@@ -1,6 +1,5 @@
 -- What a walk finds in so many bytes is what holds of a buffer of so many bytes.
 use Rattle.sise_tree_writer.proofs.Measuring.{node_checked, found_fits, found_off}
-use borrow.Author.Rules.{rules}
 use Rattle.sise_tree_writer.proofs.serialize.measure_checked.Goals as goal
 
 pub measure_nodes-walked-requires : goal.measure_nodes-walked-requires

@@ -1,7 +1,6 @@
 -- Each test of the code is the next test of the definition, whatever the buffer; after all of them the tree is measured.
 use mathlib.Core.Path.{refl, sym, ap, ◌∙◌}
 use mathlib.Core.Option.{some-injective}
-use borrow.Author.Tests.{not-true, not-false}
 use Rattle.sise_serializer.specs.Serializer.{style}
 use Rattle.sise_serializer.specs.declared.serializer.Serializer.{Serializer}
 use Rattle.sise_tree_writer.specs.SerializeTree.{tree_calls, serialize_tree}
@@ -11,11 +10,8 @@ use Rattle.sise_tree_writer.specs.declared.serialize.TreeWrote.{TreeWrote}
 use Rattle.sise_tree.specs.Decision.{is_some}
 use Rattle.sise_tree.proofs.HeldLaws.{not_tree, tree_held}
 use Rattle.sise_tree_writer.proofs.Measuring.{refused_measures, unheld_measures, tree_long, tree_unsound, tree_over, tree_in}
-use borrow.Author.Rules.{rules}
 use borrow.Enum.Refused.{opened}
 use Rattle.sise_tree_writer.proofs.serialize.plan_tree.Goals as goal
-
-
 
 abbrev wrote : Serializer → PutTree → TreeWrote
 wrote w p = record { serializer = w; answer = p }

@@ -1,5 +1,4 @@
 -- The cases of the enum.
-use borrow.Author.Rules.{rules}
 use Rattle.sise_tree_writer.proofs.serialize.refusal_of.Goals as goal
 
 pub returns-in-Tree : goal.returns-in-Tree

@@ -5,7 +5,6 @@ use Rattle.sise_tree_writer.specs.Answers.{put_as}
 use Rattle.sise_tree_writer.specs.SerializeTree.{serialize_tree}
 use Rattle.sise_tree_writer.proofs.Measuring.{not_at, tree_kept}
 use Rattle.sise_tree_writer.proofs.Accepting.{tree_writable, tree_made}
-use borrow.Author.Rules.{rules}
 use borrow.Enum.Refused.{opened}
 use Rattle.sise_tree_writer.proofs.serialize.serialize_tree.Goals as goal
 

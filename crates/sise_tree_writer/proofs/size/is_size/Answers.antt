@@ -1,7 +1,6 @@
 -- The three numbers are compared one after the other; a refusal is no size.
 use mathlib.Core.Path.{sym}
 use Rattle.sise_tree_writer.proofs.Sizes.{no_size, other_bytes, other_breaks, last-decides}
-use borrow.Author.Rules.{rules}
 use borrow.Enum.Refused.{opened}
 use Rattle.sise_tree_writer.proofs.size.is_size.Goals as goal
 

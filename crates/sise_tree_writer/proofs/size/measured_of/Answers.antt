@@ -4,10 +4,7 @@ use Rattle.sise_serializer.specs.declared.serializer.Serializer.{Serializer}
 use Rattle.sise_tree_writer.specs.Answers.{put_as}
 use Rattle.sise_tree_writer.specs.Sizes.{Enquiry, enquiry_by}
 use Rattle.sise_tree_writer.specs.declared.serialize.PutTree.{PutTree}
-use borrow.Author.Rules.{rules}
 use Rattle.sise_tree_writer.proofs.size.measured_of.Goals as goal
-
-
 
 abbrev by : Serializer → Serializer → PutTree → Enquiry
 by w v p = enquiry_by (put_as p) w v

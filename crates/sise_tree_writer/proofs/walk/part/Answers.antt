@@ -1,6 +1,5 @@
 -- The part lies in the text, so the definition has all of its bytes.
 use Rattle.sise_parser.proofs.Parts.{part_by_ends}
-use borrow.Author.Rules.{rules}
 use Rattle.sise_tree_writer.proofs.walk.part.Goals as goal
 
 pub returns : goal.returns

@@ -1,13 +1,11 @@
 -- What one call refuses, the commit refuses. Else the size is compared: if it is another one, that is 23; if it is the same, the text is written.
 use mathlib.Core.Path.{refl, sym, ap, ◌∙◌}
-use borrow.Author.Tests.{not-true, not-false}
 use Rattle.sise_serializer.specs.Serializer.{style, fresh_serializer}
 use Rattle.sise_tree_writer.specs.Answers.{put_as}
 use Rattle.sise_tree_writer.specs.Writing.{text_calls}
 use Rattle.sise_tree_writer.specs.Sizes.{measured_as}
 use Rattle.sise_tree_writer.proofs.Measuring.{not_at, tree_kept}
 use Rattle.sise_tree_writer.proofs.Sizes.{can_measure, does_refused, does_changed, does_same}
-use borrow.Author.Rules.{rules}
 use borrow.Enum.Refused.{opened}
 use Rattle.sise_tree_writer.proofs.whole.commit_text.Goals as goal
 

@@ -1,7 +1,6 @@
 -- The line break where it is wished, and nothing otherwise.
 use mathlib.Core.Path.{sym, ◌∙◌}
 use Rattle.sise_serializer.proofs.Bytes.{pasted_none, pasted_if_lem}
-use borrow.Author.Rules.{rules}
 use Rattle.sise_tree_writer.proofs.whole.finish_tree.Goals as goal
 
 pub returns-then-final_break : goal.returns-then-final_break

@@ -5,7 +5,6 @@ use lib.ListN.{replicate, length-replicate}
 use Rattle.sise_serializer.specs.Serializer.{style, fresh_serializer}
 use Rattle.sise_tree_writer.specs.Writing.{text_calls}
 use Rattle.sise_tree_writer.proofs.Sizes.{can_measure, planned_enquiry}
-use borrow.Author.Rules.{rules}
 use Rattle.sise_tree_writer.proofs.whole.measure_text.Goals as goal
 
 pub measured_of-requires : goal.measured_of-requires

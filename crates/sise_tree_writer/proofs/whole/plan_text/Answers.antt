@@ -5,7 +5,6 @@ use Rattle.sise_tree_writer.specs.Answers.{put_as}
 use Rattle.sise_tree_writer.proofs.Measuring.{not_at}
 use Rattle.sise_tree_writer.proofs.Walked.{not_put}
 use Rattle.sise_tree_writer.proofs.Finishing.{tree_sound, text_none, text_full, text_fits}
-use borrow.Author.Rules.{rules}
 use borrow.Enum.Refused.{opened}
 use Rattle.sise_tree_writer.proofs.whole.plan_text.Goals as goal
 

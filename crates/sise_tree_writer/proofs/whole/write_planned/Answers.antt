@@ -2,7 +2,6 @@
 use native.Mathlib.Omega.{arith}
 use Rattle.sise_serializer.specs.Serializer.{style}
 use Rattle.sise_tree_writer.proofs.Accepting.{text_writable, text_ends, text_made}
-use borrow.Author.Rules.{rules}
 use Rattle.sise_tree_writer.proofs.whole.write_planned.Goals as goal
 
 pub write_nodes-end-requires : goal.write_nodes-end-requires

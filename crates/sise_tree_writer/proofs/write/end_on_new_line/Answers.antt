@@ -6,7 +6,6 @@ use lib.ListN.{length}
 use mathlib.Core.List.{[], ◌∷◌}
 use Rattle.sise_serializer.specs.Serializer.{style, new_line_of, close_as}
 use Rattle.sise_serializer.proofs.Bytes.{layout_length, pasted_if_lem, pasted_one, pasted_behind}
-use borrow.Author.Rules.{rules}
 use Rattle.sise_tree_writer.proofs.write.end_on_new_line.Goals as goal
 
 pub overflow_mul-indent : goal.overflow_mul-indent

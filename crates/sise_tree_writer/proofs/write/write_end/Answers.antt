@@ -8,7 +8,6 @@ use Rattle.sise_serializer.proofs.Bytes.{pasted_one}
 use Rattle.sise_serializer.proofs.Sound.{sound, small, writing_lists}
 use Rattle.sise_serializer.proofs.Does.{close_broken, close_unbroken}
 use Rattle.sise_tree_writer.proofs.Made.{itself, has_room, makes, end_piece, end_writing}
-use borrow.Author.Rules.{rules}
 use Rattle.sise_tree_writer.proofs.write.write_end.Goals as goal
 
 pub end_on_new_line-requires : goal.end_on_new_line-requires

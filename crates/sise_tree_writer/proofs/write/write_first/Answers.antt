@@ -1,7 +1,6 @@
 -- The token stands at the position, and the record has it counted.
 use native.Mathlib.Omega.{arith}
 use Rattle.sise_tree_writer.proofs.Made.{first_room, first_written}
-use borrow.Author.Rules.{rules}
 use Rattle.sise_tree_writer.proofs.write.write_first.Goals as goal
 
 pub write_token-requires : goal.write_token-requires

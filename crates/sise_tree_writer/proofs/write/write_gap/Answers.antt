@@ -1,9 +1,7 @@
 -- One byte, or none.
 use native.Mathlib.Omega.{arith}
 use mathlib.Core.Path.{sym}
-use borrow.Author.Tests.{not-true, not-false}
 use Rattle.sise_serializer.proofs.Bytes.{pasted_one, pasted_none}
-use borrow.Author.Rules.{rules}
 use Rattle.sise_tree_writer.proofs.write.write_gap.Goals as goal
 
 pub bounds-buf-at : goal.bounds-buf-at

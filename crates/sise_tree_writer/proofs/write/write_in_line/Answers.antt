@@ -6,7 +6,6 @@ use Rattle.sise_serializer.specs.Parts.{in_line, gap_bytes}
 use Rattle.sise_serializer.proofs.Bytes.{pasted_behind}
 use Rattle.sise_serializer.proofs.Tests.{gap_short}
 use Rattle.sise_tree_writer.specs.Planning.{token_of}
-use borrow.Author.Rules.{rules}
 use Rattle.sise_tree_writer.proofs.write.write_in_line.Goals as goal
 
 pub write_gap-requires : goal.write_gap-requires

@@ -5,7 +5,6 @@ use Rattle.sise_serializer.proofs.Sound.{small}
 use Rattle.sise_serializer.proofs.Does.{new_line_is, in_line_is}
 use Rattle.sise_tree_writer.specs.Planning.{token_of}
 use Rattle.sise_tree_writer.proofs.Made.{itself, has_room, makes, not_beginning, first_piece, inner_piece}
-use borrow.Author.Rules.{rules}
 use borrow.Enum.Refused.{opened}
 use Rattle.sise_tree_writer.proofs.write.write_item.Goals as goal
 

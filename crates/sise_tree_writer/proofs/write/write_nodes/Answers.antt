@@ -1,15 +1,10 @@
 -- Before each turn the calls left do as the whole does; a turn makes one call, which is accepted, and passes a node or closes a list.
-use Prim.Native.Nat.{ℕ, ◌+◌, ◌-◌, ◌*◌}
 use mathlib.Core.Path.{refl, sym, ap}
-use mathlib.Core.Bool.{true}
-use lib.ListN.{length}
 use borrow.Author.Tests.{eq-eqb, ne_eqb}
-use Rattle.sise_serializer.specs.Serializer.{style}
 use Rattle.sise_tree_writer.specs.Planning.{turn_call}
 use Rattle.sise_tree_writer.specs.declared.walk.Place.{Place}
 use Rattle.sise_tree_writer.proofs.Atoms.{root_there}
-use Rattle.sise_tree_writer.proofs.Walked.{Walking, walking_start, turn_there, turn_passable, turn_atom, turn_can, made_less, made_on, walk_end, walk_buffer}
-use borrow.Author.Rules.{rules}
+use Rattle.sise_tree_writer.proofs.Walked.{walking_start, turn_there, turn_passable, turn_atom, turn_can, made_less, made_on, walk_end, walk_buffer}
 use Rattle.sise_tree_writer.proofs.write.write_nodes.Goals as goal
 
 pub bounds-table-3 : goal.bounds-table-3

@@ -6,7 +6,6 @@ use mathlib.Core.Path.{◌≡◌, ◌∙◌}
 use Rattle.sise_serializer.specs.Serializer.{style, new_line_of, laid, inner_as}
 use Rattle.sise_serializer.proofs.Bytes.{layout_length, pasted_if_lem, pasted_behind}
 use Rattle.sise_tree_writer.specs.Planning.{token_of}
-use borrow.Author.Rules.{rules}
 use Rattle.sise_tree_writer.proofs.write.write_on_new_line.Goals as goal
 
 pub overflow_mul-indent : goal.overflow_mul-indent

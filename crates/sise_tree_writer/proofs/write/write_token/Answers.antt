@@ -2,7 +2,6 @@
 use native.Mathlib.Omega.{arith}
 use mathlib.Core.Path.{◌∙◌}
 use Rattle.sise_serializer.proofs.Bytes.{pasted_one, pasted_if_lem}
-use borrow.Author.Rules.{rules}
 use Rattle.sise_tree_writer.proofs.write.write_token.Goals as goal
 
 pub bounds-buf-at : goal.bounds-buf-at

@@ -5,12 +5,9 @@ use Prim.Native.Nat.{ℕ, ◌-◌, ◌<◌}
 use native.Mathlib.Omega.{arith}
 use lib.ListN.{length, take, drop, length-drop}
 use lib.Seq.{take_all}
-use borrow.Author.Rules.{rules}
 use Rattle.sise_util.specs.Utf8.{character}
 use Rattle.sise_util.proofs.Utf8Steps.{none_at}
 use Rattle.sise_util.proofs.utf8.character_at.Goals as goal
-
-
 
 -- the part of a text from a place on is its rest
 rest : (text : List ℕ) (at : ℕ) → take (length text - at) (drop at text) ≡ drop at text

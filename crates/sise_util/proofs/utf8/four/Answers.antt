@@ -5,14 +5,11 @@ use native.Mathlib.Omega.{arith}
 use mathlib.Core.List.{List, [], ◌∷◌}
 use lib.Dec.{lit<}
 use lib.ListN.{drop}
-use borrow.Author.Rules.{rules}
 use Rattle.sise_util.specs.Parts.{OctetAt}
 use Rattle.sise_util.specs.Utf8.{tail, follow}
 use Rattle.sise_util.specs.declared.utf8.Character.TheVariants.{Well, Ill}
 use Rattle.sise_util.proofs.Utf8Steps.{hit, miss, ends}
 use Rattle.sise_util.proofs.utf8.four.Goals as goal
-
-
 
 -- a third octet that is a UTF8-tail, and a fourth that is none
 fourth : {l : List ℕ} {third o : ℕ} (c : ℕ) → OctetAt l 2 third → 0x80 ≤ third → third ≤ 0xBF → OctetAt l 3 o → (0x80 ≤ o → o ≤ 0xBF → ⊥) → Ill 3 ≡ follow c 4 (tail ∷ tail ∷ []) (drop 2 l)

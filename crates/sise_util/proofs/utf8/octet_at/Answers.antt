@@ -1,6 +1,5 @@
 -- `sise_util::octet_at` meets its contract: past the end of a text stands the default, 0.
 use mathlib.Core.Path.{refl, sym}
-use borrow.Author.Rules.{rules}
 use lib.ListN.{get_or-eq_default}
 use Rattle.sise_util.proofs.utf8.octet_at.Goals as goal
 

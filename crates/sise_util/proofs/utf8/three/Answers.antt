@@ -4,7 +4,6 @@ use Prim.Native.Nat.{ℕ, ◌+◌, ◌*◌}
 use native.Mathlib.Omega.{arith}
 use mathlib.Core.List.{[]}
 use lib.Dec.{lit<}
-use borrow.Author.Rules.{rules}
 use Rattle.sise_util.specs.declared.utf8.Character.TheVariants.{Well}
 use Rattle.sise_util.proofs.Utf8Steps.{hit, miss, ends}
 use Rattle.sise_util.proofs.utf8.three.Goals as goal

@@ -1,7 +1,6 @@
 -- `sise_util::two` meets its contract: the code point is the two octets' free bits.
 use mathlib.Core.Path.{ap₂}
 use Prim.Native.Nat.{ℕ, ◌+◌, ◌*◌}
-use borrow.Author.Rules.{rules}
 use Rattle.sise_util.specs.declared.utf8.Character.TheVariants.{Well}
 use Rattle.sise_util.proofs.utf8.two.Goals as goal
 

@@ -3,7 +3,6 @@
 use mathlib.Core.Path.{refl, sym, ap, ◌∙◌}
 use Prim.Native.Nat.{ℕ}
 use native.Mathlib.Omega.{arith}
-use borrow.Author.Rules.{rules}
 use Rattle.sise_util.specs.Utf8.{forms}
 use Rattle.sise_util.specs.declared.utf8.Character.TheVariants.{Well}
 use Rattle.sise_util.proofs.Utf8Steps.{row_at, no_row_at, goes_on, stops, ends}

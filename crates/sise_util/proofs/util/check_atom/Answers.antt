@@ -1,7 +1,5 @@
 -- Atom characters alone are a plain atom; of all else the longer check says it.
 use Rattle.sise_util.proofs.PlainRuns.{plain_all}
-use borrow.Author.Rules.{rules}
-use borrow.Author.Tests.{eqb-true}
 use Rattle.sise_util.proofs.util.check_atom.Goals as goal
 
 pub returns-then-end-atom : goal.returns-then-end-atom

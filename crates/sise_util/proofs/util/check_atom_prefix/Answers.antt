@@ -5,13 +5,10 @@ use Prim.Native.Nat.{ℕ, ◌≤◌, ◌<◌}
 use lib.ListN.{length, take}
 use lib.Seq.{length-take-le}
 use Rattle.sise_util.proofs.PlainRuns.{plain_all}
-use borrow.Author.Rules.{rules}
-use borrow.Author.Tests.{le-leb, lt-leb, eqb-true}
+use borrow.Author.Tests.{le-leb, lt-leb}
 use Rattle.sise_util.specs.Atom.{kind_of, kind_prefix}
 use Rattle.sise_util.specs.declared.util.AtomKind.TheVariants.{No}
 use Rattle.sise_util.proofs.util.check_atom_prefix.Goals as goal
-
-
 
 past_end : (rest : List ℕ) (n : ℕ) → length rest < n → No ≡ kind_prefix rest n
 unfolding kind_prefix

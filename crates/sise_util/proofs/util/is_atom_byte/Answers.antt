@@ -10,8 +10,6 @@ use Rattle.sise_util.specs.Parts.{mask_of}
 use Rattle.sise_util.proofs.Ranges.{ranged, same_bool}
 use Rattle.sise_util.proofs.util.is_atom_byte.Goals as goal
 
-
-
 -- the bit of b in the mask m
 abbrev bit : ℕ → ℕ → Bool
 bit m b = eqb (m / 2 ^ (b % 64) % 2) 1

@@ -2,16 +2,12 @@
 use Prim.Native.Nat.{ℕ, ◌≤◌}
 use mathlib.Core.Path.{◌≡◌, refl, sym, ◌∙◌}
 use mathlib.Core.Bool.{Bool, true, false, ◌||◌}
-use mathlib.Core.Logic.{⊎_elim}
 use native.Mathlib.Omega.{arith}
-use borrow.Author.Rules.{rules}
 use Rattle.sise_util.specs.Chars.{one_of, marks, is_atom_chr}
 use Rattle.sise_util.proofs.Ranges.{valued}
 use Rattle.sise_util.proofs.Utf8Steps.{within_no}
 use Rattle.sise_util.proofs.util.is_atom_chr.Goals as goal
 use Rattle.sise_util.proofs.util.is_atom_chr.Goals.{in_default-via-then-chr-lt97, in_default-via-else-chr-lt97+else-chr-lt123, in_default-chr-via-then-chr-lt48, in_default-chr-via-else-chr-lt48+else-chr-lt58+then-chr-lt65, in_default-chr-via-else-chr-lt48+else-chr-lt58+else-chr-lt65+else-chr-lt91}
-
-
 
 or_none : (a : Bool) → a || false || false || false ≡ a
 or_none true = refl

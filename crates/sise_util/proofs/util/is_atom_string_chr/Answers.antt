@@ -10,8 +10,6 @@ use Rattle.sise_util.specs.Chars.{is_string_chr}
 use Rattle.sise_util.proofs.Ranges.{split, valued, valued_but}
 use Rattle.sise_util.proofs.util.is_atom_string_chr.Goals as goal
 
-
-
 -- 0x20 to 0x7E but " and \, on both sides of \
 printable : (b : ℕ) → (b ≡ 34 → ⊥) → (b ≡ 92 → ⊥) → 32 ≤ b → b < 127 → true ≡ is_string_chr b
 printable b q k lo hi =

@@ -10,8 +10,6 @@ use Rattle.sise_util.specs.Chars.{one_of, marks}
 use Rattle.sise_util.proofs.Ranges.{split, valued, valued_but}
 use Rattle.sise_util.proofs.util.is_mark.Goals as goal
 
-
-
 -- from A on, on both sides of ~
 high : (b : ℕ) → (b ≡ 95 → ⊥) → (b ≡ 126 → ⊥) → 65 ≤ b → b < 256 → false ≡ one_of marks b
 high b q k lo hi =

@@ -3,7 +3,7 @@
 use mathlib.Core.Path.{◌≡◌, refl, sym, ap, ◌∙◌}
 use mathlib.Core.Bool.{Bool, true, false, cond, ◌&&◌, ◌||◌, false≢true}
 use mathlib.Core.List.{List, [], ◌∷◌}
-use Prim.Native.Nat.{ℕ, ◌+◌, ◌-◌, ◌≤◌, ◌<◌}
+use Prim.Native.Nat.{ℕ, ◌+◌, ◌≤◌, ◌<◌}
 use native.Mathlib.Omega.{arith}
 use lib.Dec.{eqb}
 use lib.ListN.{length, drop, get_or, drop_of_length-le}
@@ -17,7 +17,6 @@ use Rattle.sise_util.proofs.Ranges.{split, and_first, and_second}
 use Rattle.sise_util.proofs.AtomLaws.{outside_cons, plain_passes}
 use Rattle.sise_util.proofs.PlainRuns.{some_atom, quotes_after, no_string}
 use Rattle.sise_util.proofs.KindLaws.{kind_no, kind_plain, kind_string, kind_mixed}
-use borrow.Author.Rules.{rules}
 use Rattle.sise_util.proofs.util.kind_from.Invariants.{Due}
 use Rattle.sise_util.proofs.util.kind_from.Goals as goal
 

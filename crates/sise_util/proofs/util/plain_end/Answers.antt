@@ -1,11 +1,6 @@
 -- What the loop keeps: the bytes that it passed are atom characters.
-use mathlib.Core.Path.{◌≡◌, refl, sym, ◌∙◌}
-use Prim.Native.Nat.{◌-◌}
+use mathlib.Core.Path.{refl, sym, ◌∙◌}
 use native.Mathlib.Omega.{arith}
-use lib.ListN.{length}
-use borrow.Author.Rules.{rules}
-use borrow.Author.Tests.{not-false}
-use Rattle.sise_util.specs.Parts.{PlainTo}
 use Rattle.sise_util.proofs.PlainRuns.{plain_on}
 use Rattle.sise_util.proofs.util.plain_end.Goals as goal
 

@@ -1,14 +1,12 @@
 -- What the loop keeps: what the test says inside the string at `at` is what it says from where the string's inside begins. Each byte is one of its steps.
 use mathlib.Core.Path.{◌≡◌, refl, sym, ap, ◌∙◌}
 use mathlib.Core.Bool.{Bool, true, false, cond}
-use mathlib.Core.Logic.{⊎_elim}
 use mathlib.Core.List.{List}
-use Prim.Native.Nat.{ℕ, ◌+◌, ◌-◌, ◌≤◌, ◌<◌}
+use Prim.Native.Nat.{ℕ, ◌+◌, ◌≤◌, ◌<◌}
 use native.Mathlib.Omega.{arith}
 use lib.Dec.{eqb}
 use lib.ListN.{length, drop, get_or, drop_of_length-le}
-use borrow.Author.Rules.{rules}
-use borrow.Author.Tests.{eq-eqb, ne_eqb, not-true, not-false}
+use borrow.Author.Tests.{eq-eqb, ne_eqb}
 use Rattle.sise_util.specs.Chars.{is_string_chr, is_escaped_chr}
 use Rattle.sise_util.specs.Atom.{outside, inside, escaped, ends_string, ends_escaped}
 use Rattle.sise_util.specs.Parts.{after_string}
@@ -76,7 +74,7 @@ pub loop-at-init : goal.loop-at-init
 loop-at-init c = (record { same = refl; ends = refl }, omega arith)
 
 pub returns-then-chr-eq34 : goal.returns-then-chr-eq34
-returns-then-chr-eq34 c = 
+returns-then-chr-eq34 c =
     let i = c.loop-at.invariant in
     record { same = leave i.0 (omega arith) c.if-chr-eq34.true; on = λ z. omega (arith, i.1); whole = λ z. leave_last i.0 (omega arith) c.if-chr-eq34.true }
 

@@ -1,23 +1,11 @@
 -- What the loop keeps: what the test says inside the string at `at` is what it says from where the string's inside begins. Each byte is one of its steps.
-use mathlib.Core.Path.{◌≡◌, refl, sym, ap, ◌∙◌}
-use mathlib.Core.Bool.{Bool, true, false, cond}
-use mathlib.Core.Logic.{⊎_elim}
+use mathlib.Core.Path.{◌≡◌}
+use mathlib.Core.Bool.{Bool}
 use mathlib.Core.List.{List}
-use Prim.Native.Nat.{ℕ, ◌+◌, ◌-◌, ◌≤◌, ◌<◌}
-use native.Mathlib.Omega.{arith}
-use lib.Dec.{eqb}
-use lib.ListN.{length, drop, get_or, drop_of_length-le}
-use borrow.Author.Rules.{rules}
-use borrow.Author.Tests.{eq-eqb, ne_eqb, not-true, not-false}
-use Rattle.sise_util.specs.Chars.{is_string_chr, is_escaped_chr}
-use Rattle.sise_util.specs.Atom.{outside, inside, escaped, ends_string, ends_escaped}
-use Rattle.sise_util.specs.Parts.{after_string}
-use Rattle.sise_util.proofs.Lists.{drop-next}
-use Rattle.sise_util.proofs.AtomLaws.{inside_cons, escaped_one}
-use Rattle.sise_util.proofs.KindLaws.{nothing_left}
+use Prim.Native.Nat.{ℕ, ◌-◌, ◌≤◌}
+use lib.ListN.{length, drop}
+use Rattle.sise_util.specs.Atom.{inside, ends_string}
 use Rattle.sise_util.proofs.util.string_end.Given as goal
-
-
 
 -- inside the string at `at` of s the test says x, and whether the string is the last of it is y
 pub record Due (x y : Bool) (s : List ℕ) (at : ℕ) : Type 0 where

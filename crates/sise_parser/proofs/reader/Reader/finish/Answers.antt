@@ -6,8 +6,6 @@ use Prim.Native.Nat.{ℕ}
 use native.Mathlib.Omega.{arith}
 use types.Run.{OneOf}
 use denote.Enum.Declared.{tag_of}
-use borrow.Author.Rules.{rules}
-use borrow.Author.Tests.{not-true, not-false}
 use Rattle.sise_parser.specs.Refusals.{refusal}
 use Rattle.sise_parser.specs.Lexer.{found}
 use Rattle.sise_parser.specs.Reader.{token_at, ended, not_ended, ends_at}
@@ -20,8 +18,6 @@ use Rattle.sise_parser.specs.contracts.lexer.Token as tokens
 use Rattle.sise_parser.proofs.Calls.{finish_unsound, finish_early, finish_token}
 use borrow.Enum.Refused.{opened}
 use Rattle.sise_parser.proofs.reader.Reader.finish.Goals as goal
-
-
 
 -- the token is the end, or another
 at_end_lem : {x : Lexed} {t : Token} {s p : ℕ} → x ≡ Found t s p → t ≡ Eof → ended ≡ ends_at (lexed_as x)

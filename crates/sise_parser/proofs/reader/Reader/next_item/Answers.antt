@@ -1,7 +1,6 @@
 -- `sise_parser::Reader::next_item` meets its contract: a bracket at the position is the token there, and all else is left to item_ahead.
 use mathlib.Core.Path.{◌∙◌}
 use native.Mathlib.Omega.{arith}
-use borrow.Author.Rules.{rules}
 use borrow.Author.Tests.{ltb-true, leb-true}
 use Rattle.sise_parser.proofs.Calls.{opened_here, closed_here}
 use Rattle.sise_parser.proofs.reader.Reader.next_item.Goals as goal

@@ -1,9 +1,7 @@
 -- An unsound record is refused; a sound one goes on to `close_list`.
 use mathlib.Core.Path.{refl, sym, ◌∙◌}
-use borrow.Author.Tests.{not-true, not-false}
 use Rattle.sise_serializer.specs.Calls.{end_list_call}
 use Rattle.sise_serializer.proofs.Does.{refused_does, unsound_call}
-use borrow.Author.Rules.{rules}
 use Rattle.sise_serializer.proofs.serializer.Serializer.end_list.Goals as goal
 
 pub returns-then-not-is_sound : goal.returns-then-not-is_sound

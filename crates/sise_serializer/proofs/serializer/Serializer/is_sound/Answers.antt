@@ -4,10 +4,8 @@ use native.Mathlib.Nat.{mul-le-mul}
 use native.Mathlib.Omega.{arith}
 use mathlib.Core.Path.{sym, ◌∙◌}
 use mathlib.Core.Bool.{false≢true}
-use borrow.Author.Tests.{not-true, not-false}
 use Rattle.sise_serializer.specs.Serializer.{limit}
 use Rattle.sise_serializer.proofs.Sound.{last-small, unsound, checked_sound}
-use borrow.Author.Rules.{rules}
 use Rattle.sise_serializer.proofs.serializer.Serializer.is_sound.Goals as goal
 
 pub returns-then-position-gt-LIMIT : goal.returns-then-position-gt-LIMIT

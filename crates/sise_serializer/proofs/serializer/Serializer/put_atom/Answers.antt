@@ -1,9 +1,7 @@
 -- An unsound record is refused; a sound one goes on to `write_atom`.
 use mathlib.Core.Path.{refl, sym, ◌∙◌}
-use borrow.Author.Tests.{not-true, not-false}
 use Rattle.sise_serializer.specs.Calls.{put_atom_call}
 use Rattle.sise_serializer.proofs.Does.{refused_does, unsound_call}
-use borrow.Author.Rules.{rules}
 use Rattle.sise_serializer.proofs.serializer.Serializer.put_atom.Goals as goal
 
 pub returns-then-not-is_sound : goal.returns-then-not-is_sound

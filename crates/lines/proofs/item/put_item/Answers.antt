@@ -1,0 +1,29 @@
+-- `put_item` meets its contract: each kind of item has its letter and numbers.
+use mathlib.Core.Path.{◌≡◌, sym, ap, ◌∙◌}
+use mathlib.Core.List.{◌∷◌}
+use borrow.Author.Rules.{rules}
+use Rattle.lines.specs.Put.{Output, put, number, item_text}
+use Rattle.sise_parser.specs.declared.reader.ParsedItem.{ParsedItem}
+use Rattle.lines.proofs.Laws.{put_both}
+use Rattle.lines.proofs.item.put_item.Goals as goal
+
+
+
+-- what is put for the item that it is
+put_as_lem : {i j : ParsedItem} {p : Output} (o : Output) → i ≡ j → p ≡ put o (item_text j) → p ≡ put o (item_text i)
+put_as_lem o e h = h ∙ ap (λ (x : ParsedItem). put o (item_text x)) (sym e)
+
+pub returns-in-ListStart : goal.returns-in-ListStart
+unfolding item_text
+returns-in-ListStart c = put_as_lem _ c.in-ListStart.is c.put_letter.ensures
+
+pub returns-in-Atom : goal.returns-in-Atom
+unfolding item_text
+returns-in-Atom c =
+    put_as_lem _
+    c.in-Atom.is
+    (put_both _ (_ ∷ number _) (number _) c.put_letter-at.ensures c.put_number.ensures)
+
+pub returns-in-ListEnd : goal.returns-in-ListEnd
+unfolding item_text
+returns-in-ListEnd c = put_as_lem _ c.in-ListEnd.is c.put_letter-in-ListEnd.ensures

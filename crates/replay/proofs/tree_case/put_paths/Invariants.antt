@@ -1,0 +1,15 @@
+-- `put_paths` meets its contract: the paths left fall, and each lies after the last.
+use borrow.Author.Rules.{rules}
+use lib.ListN.{length}
+use mathlib.Core.Path.{◌≡◌, sym}
+use Prim.Native.Nat.{◌<◌}
+use native.Mathlib.Omega.{arith}
+use lib.Seq.{length-take-le}
+use Rattle.script.proofs.Froms.{numbers_from}
+use Rattle.replay.proofs.tree_case.put_paths.Given as goal
+
+abbrev pub invariant-loop-left : goal.invariant-loop-left
+invariant-loop-left l = (256 ≡ length l.list) × (l.line_end < l.from)
+
+abbrev pub decreases-loop-left : goal.decreases-loop-left
+decreases-loop-left l = l.left
