@@ -5,6 +5,7 @@
 // A case is the line's bytes, or, after an `x`, bytes in hexadecimal, two digits each. crates/characters/stdout was made from the same cases by the
 // Rust program compare/, which runs the crate's util.rs and the standard library's UTF-8 decoder (`compare/run characters`).
 #![tactic(auto)]
+
 ghost use Rattle.std.specs.Prelude.{◌<◌};
 
 use lines::Block;

@@ -2,6 +2,7 @@
 // ends. The last line is `ok`, or, at the first refusal, `refused number place` with document 01's number, and the place 0 where it has none. A text of
 // more than 65,536 bytes gives the one line `long`.
 #![tactic(auto)]
+
 ghost use Rattle.std.specs.Prelude.{◌≡◌};
 ghost use Rattle.lines.specs.Put.{output, put};
 ghost use Rattle.items.specs.Last.{refused_line, last_line};

@@ -1,5 +1,6 @@
 // Text for a program's output, collected in a lent block, which is written whenever it is full.
 #![tactic(auto)]
+
 mod item;
 
 ghost use Rattle.std.specs.Prelude.{◌≡◌, [], ◌∷◌};

@@ -1,5 +1,6 @@
 // The reader's cases of a script.
 #![tactic(auto)]
+
 ghost use Rattle.std.specs.Prelude.{◌≡◌};
 ghost use Rattle.script.specs.Script.{Onward};
 ghost use Rattle.lines.specs.Put.{output, put};

@@ -33,8 +33,7 @@ use sise_util::check_atom;
 pub use writing::{sise_begin_list, sise_end_list, sise_finish_writing, sise_put_atom};
 
 // Whether the bytes are an atom: 0 or 17.
-#[unsafe(no_mangle)]
-pub extern "C" fn sise_check_atom(atom: &[u8]) -> u32
+pub fn sise_check_atom(atom: &[u8]) -> u32
     ensures { result ≡ checked (is_atom atom.now) }
 {
     let kind = check_atom(atom);
@@ -42,8 +41,7 @@ pub extern "C" fn sise_check_atom(atom: &[u8]) -> u32
 }
 
 // Which atom the bytes are: 1 plain, with no `"` in it, 2 one whole string, 3 any other atom, and 0 no atom. It is the first word of such an atom in a table.
-#[unsafe(no_mangle)]
-pub extern "C" fn sise_atom_kind(atom: &[u8]) -> u32
+pub fn sise_atom_kind(atom: &[u8]) -> u32
     ensures { result ≡ kind_number (kind_of atom.now) }
 {
     let kind = check_atom(atom);
@@ -51,8 +49,7 @@ pub extern "C" fn sise_atom_kind(atom: &[u8]) -> u32
 }
 
 // Reads a whole text, which is one node, into the table. The first value is how many nodes it has.
-#[unsafe(no_mangle)]
-pub extern "C" fn sise_parse_tree(text: &[u8], table: &mut [u32], values: &mut Values) -> u32
+pub fn sise_parse_tree(text: &[u8], table: &mut [u32], values: &mut Values) -> u32
     ensures answer { Reports (parse_text text.now table.old).answer result values.new }
     ensures words { table.new ≡ (parse_text text.now table.old).words }
 {
@@ -60,13 +57,7 @@ pub extern "C" fn sise_parse_tree(text: &[u8], table: &mut [u32], values: &mut V
 }
 
 // Finds the node at the end of the path. The first value is its index in the table.
-#[unsafe(no_mangle)]
-pub extern "C" fn sise_index_path(
-    table: &[u32],
-    text: &[u8],
-    path: &[u64],
-    values: &mut Values,
-) -> u32
+pub fn sise_index_path(table: &[u32], text: &[u8], path: &[u64], values: &mut Values) -> u32
     ensures { Reports (index_path table.now text.now path.now) result values.new }
 {
     report_indexed(index_path(table, text, path), values)
@@ -74,21 +65,14 @@ pub extern "C" fn sise_index_path(
 
 // Finds the node at the end of the path as the table has it, which is not tested: only the nodes on the way are read. The values are the node's index in the
 // table and the number of nodes looked at.
-#[unsafe(no_mangle)]
-pub extern "C" fn sise_find_path(
-    table: &[u32],
-    text: &[u8],
-    path: &[u64],
-    values: &mut Values,
-) -> u32
+pub fn sise_find_path(table: &[u32], text: &[u8], path: &[u64], values: &mut Values) -> u32
     ensures { ReportsFound (find_path table.now text.now path.now) result values.new }
 {
     report_found(find_path(table, text, path), values)
 }
 
 // Writes the tree that the table holds over the text to the buffer's start, and a line break after it if wished. The first value is how many bytes are written.
-#[unsafe(no_mangle)]
-pub extern "C" fn sise_serialize_tree(
+pub fn sise_serialize_tree(
     line_break: &[u8],
     indentation: &[u8],
     buf: &mut [u8],
@@ -116,8 +100,7 @@ pub extern "C" fn sise_serialize_tree(
 
 // Size first: the bytes, line breaks and indentations that sise_serialize_tree would write with a buffer of `buf_len` bytes, or its refusal. Nothing is written
 // but the three words of the size, which of a refusal are 0.
-#[unsafe(no_mangle)]
-pub extern "C" fn sise_measure_tree(
+pub fn sise_measure_tree(
     line_break: &[u8],
     indentation: &[u8],
     buf_len: usize,
@@ -143,8 +126,7 @@ pub extern "C" fn sise_measure_tree(
 
 // Then the text: writes it as sise_serialize_tree does, if the size is still what sise_measure_tree answers with a buffer of this length, and else refuses with
 // 23, after all other refusals.
-#[unsafe(no_mangle)]
-pub extern "C" fn sise_commit_tree(
+pub fn sise_commit_tree(
     line_break: &[u8],
     indentation: &[u8],
     buf: &mut [u8],
@@ -173,8 +155,7 @@ pub extern "C" fn sise_commit_tree(
 }
 
 // Reads the items of a whole text into words, four an item, as sise_write_calls takes them. The first value is how many items there are.
-#[unsafe(no_mangle)]
-pub extern "C" fn sise_read_items(text: &[u8], words: &mut [u64], values: &mut Values) -> u32
+pub fn sise_read_items(text: &[u8], words: &mut [u64], values: &mut Values) -> u32
     ensures answer { Reports (read_items text.now words.old).answer result values.new }
     ensures words { words.new ≡ (read_items text.now words.old).words }
 {
@@ -193,8 +174,7 @@ pub extern "C" fn sise_read_items(text: &[u8], words: &mut [u64], values: &mut V
 }
 
 // Runs a list of writer calls, as write_calls of sise_serializer does, and returns how many bytes of the buffer are written. `ran` is how many calls ran.
-#[unsafe(no_mangle)]
-pub extern "C" fn sise_write_calls(
+pub fn sise_write_calls(
     words: &[u64],
     atoms: &[u8],
     line_break: &[u8],

@@ -100,8 +100,7 @@ fn put_reader(reader: Reader, words: &mut ReaderWords)
 }
 
 // Reads the next item of the text. `item` is its kind, place and length; of a refusal 0, its place and code point. The record's words are for the next call.
-#[unsafe(no_mangle)]
-pub extern "C" fn sise_next_item(text: &[u8], record: &mut ReaderWords, item: &mut ItemWords) -> u32
+pub fn sise_next_item(text: &[u8], record: &mut ReaderWords, item: &mut ItemWords) -> u32
     ensures answer { ReportsNext (next_of text.now «record».old).answer result item.new }
     ensures words { «record».new ≡ (next_of text.now «record».old).words }
 {
@@ -118,8 +117,7 @@ pub extern "C" fn sise_next_item(text: &[u8], record: &mut ReaderWords, item: &m
 }
 
 // Whether the text ends after the last item. The record's words are of no use after it.
-#[unsafe(no_mangle)]
-pub extern "C" fn sise_finish_reading(text: &[u8], record: &ReaderWords, values: &mut Values) -> u32
+pub fn sise_finish_reading(text: &[u8], record: &ReaderWords, values: &mut Values) -> u32
     ensures { Reports (finish_of text.now «record».now) result values.new }
 {
     let kept = reader_of(record);

@@ -126,8 +126,7 @@ fn finish_kind(final_break: bool) -> u64
 }
 
 // Puts an atom. The first value is its offset.
-#[unsafe(no_mangle)]
-pub extern "C" fn sise_put_atom(
+pub fn sise_put_atom(
     line_break: &[u8],
     indentation: &[u8],
     buf: &mut [u8],
@@ -152,8 +151,7 @@ pub extern "C" fn sise_put_atom(
 }
 
 // Begins a list. The first value is the offset of its `(`.
-#[unsafe(no_mangle)]
-pub extern "C" fn sise_begin_list(
+pub fn sise_begin_list(
     line_break: &[u8],
     indentation: &[u8],
     buf: &mut [u8],
@@ -177,8 +175,7 @@ pub extern "C" fn sise_begin_list(
 }
 
 // Ends the innermost open list. The first value is the offset of its `)`.
-#[unsafe(no_mangle)]
-pub extern "C" fn sise_end_list(
+pub fn sise_end_list(
     line_break: &[u8],
     indentation: &[u8],
     buf: &mut [u8],
@@ -201,8 +198,7 @@ pub extern "C" fn sise_end_list(
 }
 
 // Ends the text, with a line break if wished. The first value is the text's end.
-#[unsafe(no_mangle)]
-pub extern "C" fn sise_finish_writing(
+pub fn sise_finish_writing(
     line_break: &[u8],
     indentation: &[u8],
     buf: &mut [u8],

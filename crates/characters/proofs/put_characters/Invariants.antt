@@ -1,7 +1,6 @@
 -- `put_characters` is safe and ends: the place rises to one past the case.
 use Prim.Native.Nat.{◌+◌, ◌-◌, ◌≤◌}
 use lib.ListN.{length}
-use borrow.Author.Rules.{rules}
 use Rattle.characters.proofs.put_characters.Given as goal
 
 abbrev pub invariant-loop-place : goal.invariant-loop-place

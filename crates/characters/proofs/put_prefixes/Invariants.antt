@@ -1,7 +1,6 @@
 -- `put_prefixes` is safe and ends: the length rises to one past the case.
 use Prim.Native.Nat.{◌+◌, ◌-◌, ◌≤◌}
 use lib.ListN.{length}
-use borrow.Author.Rules.{rules}
 use Rattle.characters.proofs.put_prefixes.Given as goal
 
 abbrev pub invariant-loop-len : goal.invariant-loop-len

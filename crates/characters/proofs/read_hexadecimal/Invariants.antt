@@ -1,5 +1,4 @@
 -- `read_hexadecimal` is safe and ends: the length rises to 64 at most.
-use borrow.Author.Rules.{rules}
 use Prim.Native.Nat.{◌-◌, ◌≤◌}
 use lib.ListN.{length}
 use mathlib.Core.Path.{◌≡◌}

@@ -1,6 +1,5 @@
 -- `run_bytes` is safe and ends: the byte rises to 255.
 use Prim.Native.Nat.{◌-◌, ◌≤◌}
-use borrow.Author.Rules.{rules}
 use Rattle.characters.proofs.run_bytes.Given as goal
 
 abbrev pub invariant-loop-chr : goal.invariant-loop-chr

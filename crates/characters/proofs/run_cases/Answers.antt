@@ -1,9 +1,5 @@
 -- `run_cases` is safe and ends: a line lies between its start and its end.
-use mathlib.Core.Logic.{⊎_elim}
 use native.Mathlib.Omega.{arith}
-use Prim.Native.Nat.{◌-◌, ◌≤◌}
-use lib.ListN.{length}
-use borrow.Author.Rules.{rules}
 use Rattle.characters.proofs.run_cases.Goals as goal
 use Rattle.characters.proofs.run_cases.Goals.{then-text-end-eq10, else-text-end-eq10}
 

@@ -1,5 +1,4 @@
 -- `print_items` is safe and ends: the turns fall.
-use borrow.Author.Rules.{rules}
 use Rattle.items.proofs.print_items.Given as goal
 
 abbrev pub invariant-loop-turns : goal.invariant-loop-turns

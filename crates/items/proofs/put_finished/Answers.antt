@@ -3,10 +3,7 @@ use mathlib.Core.Path.{◌≡◌, sym, ap, ◌∙◌}
 use Rattle.sise_parser.specs.declared.reader.Finished.{Finished}
 use Rattle.lines.specs.Put.{Output, put}
 use Rattle.items.specs.Last.{last_line}
-use borrow.Author.Rules.{rules}
 use Rattle.items.proofs.put_finished.Goals as goal
-
-
 
 -- what is put for the answer that it is
 put_as_lem : {f g : Finished} {p : Output} (o : Output) → f ≡ g → p ≡ put o (last_line g) → p ≡ put o (last_line f)

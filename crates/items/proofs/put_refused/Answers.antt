@@ -7,10 +7,7 @@ use Rattle.sise_parser.specs.declared.error.ParseError.{ParseError}
 use Rattle.lines.specs.Put.{Output, put, number}
 use Rattle.lines.proofs.Laws.{put_both}
 use Rattle.items.specs.Last.{refused_line}
-use borrow.Author.Rules.{rules}
 use Rattle.items.proofs.put_refused.Goals as goal
-
-
 
 line : (o : Output) {p q r s : Output} (a b : ℕ) (e : ParseError) → a ≡ (refusal_of e).number → b ≡ (refusal_of e).place
     → p ≡ put o (114 ∷ 101 ∷ 102 ∷ 117 ∷ 115 ∷ 101 ∷ 100 ∷ []) → q ≡ put p (number a) → r ≡ put q (number b) → s ≡ put r (10 ∷ [])

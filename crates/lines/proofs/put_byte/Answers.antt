@@ -4,12 +4,9 @@ use mathlib.Core.Bool.{Bool, cond}
 use mathlib.Core.List.{List, [], ◌∷◌}
 use Prim.Native.Nat.{ℕ, ◌+◌, ◌≤◌, ◌<◌}
 use lib.ListN.{set}
-use borrow.Author.Rules.{rules}
 use borrow.Author.Tests.{lt-ltb, le-ltb}
 use Rattle.lines.specs.Put.{output, place_in, put_byte, put}
 use Rattle.lines.proofs.put_byte.Goals as goal
-
-
 
 -- the place by the outcome of the test
 placed : (o : List ℕ) (at byte : ℕ) {p : ℕ} → place_in (output at o) ≡ p → output (p + 1) (set o p byte) ≡ put (output at o) (byte ∷ [])

@@ -1,7 +1,7 @@
 -- `put_bytes` meets its contract. What the loop keeps: to put the bytes that are left is to put all of them from the beginning.
 use mathlib.Core.Path.{◌≡◌, refl, ◌∙◌}
 use mathlib.Core.List.{List, [], ◌∷◌}
-use Prim.Native.Nat.{ℕ, ◌+◌, ◌-◌, ◌≤◌, ◌<◌}
+use Prim.Native.Nat.{ℕ, ◌+◌, ◌≤◌, ◌<◌}
 use native.Mathlib.Numerals.{add-one}
 use lib.ListN.{length, get_or, drop, drop_of_length-le}
 use lib.Seq.{drop-cons}
@@ -22,20 +22,19 @@ pub loop-i-init : goal.loop-i-init
 loop-i-init c = (search rules, refl)
 
 pub loop-i-preserved : goal.loop-i-preserved
-loop-i-preserved c =
-    (
-      search rules,
-      step
-          c.loop-i.out
-          c.args.bytes.now
-          c.loop-i.to
-          c.loop-i.i
-          _
-          _
-          c.loop-i-test.true
-          c.put_byte-to.ensures
-          ∙ c.loop-i.invariant.1,
-    )
+loop-i-preserved c = (
+  search rules,
+  step
+      c.loop-i.out
+      c.args.bytes.now
+      c.loop-i.to
+      c.loop-i.i
+      _
+      _
+      c.loop-i-test.true
+      c.put_byte-to.ensures
+      ∙ c.loop-i.invariant.1,
+)
 
 pub returns : goal.returns
 returns c = end c.loop-i.out c.args.bytes.now c.loop-i.to c.loop-i.i c.loop-i-test.false ∙ c.loop-i.invariant.1

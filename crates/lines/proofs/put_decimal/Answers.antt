@@ -1,5 +1,5 @@
 -- `put_decimal` meets its contract: the digits are those of `io::decimal`, put as bytes.
-use mathlib.Core.Path.{◌≡◌, refl, sym, ap, ◌∙◌}
+use mathlib.Core.Path.{◌≡◌, ap, ◌∙◌}
 use mathlib.Core.List.{List}
 use Prim.Native.Nat.{ℕ, zero, suc, ◌-◌, ◌^◌, ◌≤◌, ◌<◌}
 use native.Mathlib.Nat.{not-suc-le-zero, pow-le-pow_right, zero-lt-suc}
@@ -12,8 +12,6 @@ use Rattle.io.specs.Digits.{last_digits, IsDigitCount}
 use Rattle.lines.specs.Put.{Output, put, decimal}
 use Rattle.lines.proofs.Laws.{spelled}
 use Rattle.lines.proofs.put_decimal.Goals as goal
-
-
 
 in_decimal : (k n : ℕ) → k ≤ 20 → IsDigitCount 10 1 n k → last_digits 10 k n ≡ decimal n
 unfolding decimal

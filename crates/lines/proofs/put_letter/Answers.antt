@@ -1,6 +1,5 @@
 -- `put_letter` meets its contract: the letter, and the number behind it.
 use mathlib.Core.List.{[], ◌∷◌}
-use borrow.Author.Rules.{rules}
 use Rattle.lines.specs.Put.{number}
 use Rattle.lines.proofs.Laws.{put_both}
 use Rattle.lines.proofs.put_letter.Goals as goal

@@ -1,6 +1,5 @@
 -- `put_number` meets its contract: the space, and the digits behind it.
 use mathlib.Core.List.{[], ◌∷◌}
-use borrow.Author.Rules.{rules}
 use Rattle.lines.specs.Put.{decimal, number}
 use Rattle.lines.proofs.Laws.{put_both}
 use Rattle.lines.proofs.put_number.Goals as goal

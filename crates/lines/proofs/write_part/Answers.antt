@@ -1,5 +1,4 @@
 -- `write_part` is safe: the part written lies within the bytes.
-use borrow.Author.Rules.{rules}
 use mathlib.Core.Path.{sym}
 use lib.Seq.{length-take-le}
 use Rattle.lines.proofs.write_part.Goals as goal

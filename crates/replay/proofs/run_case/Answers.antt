@@ -1,6 +1,5 @@
 -- `run_case` meets its contract: each case ends after its letter.
 use native.Mathlib.Omega.{arith}
-use borrow.Author.Rules.{rules}
 use Rattle.script.proofs.Froms.{onward_after}
 use Rattle.replay.proofs.run_case.Goals as goal
 

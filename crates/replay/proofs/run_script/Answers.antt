@@ -1,12 +1,9 @@
 -- `run_script` is safe and ends: each case lies after the last.
-use mathlib.Core.Logic.{⊎_elim}
 use native.Mathlib.Omega.{arith}
-use borrow.Author.Rules.{rules}
 use Rattle.script.specs.Script.{Onward}
 use Rattle.script.specs.declared.Ran.{Ran}
-use lib.ListN.{length}
 use mathlib.Core.Path.{◌≡◌, subst}
-use Prim.Native.Nat.{ℕ, ◌-◌, ◌<◌}
+use Prim.Native.Nat.{ℕ, ◌<◌}
 use Rattle.replay.proofs.run_script.Goals as goal
 
 onward : {r : Ran} {p next : ℕ} (from : ℕ) → r ≡ Ran.Case p next → Onward from r → from < next

@@ -1,7 +1,6 @@
 -- `phase_number` meets its contract.
 use mathlib.Core.Path.{sym, ap}
 use Rattle.replay_reader.specs.Text.{phase_number}
-use borrow.Author.Rules.{rules}
 use Rattle.replay_reader.proofs.phase_number.Goals as goal
 
 pub returns-in-Beginning : goal.returns-in-Beginning

@@ -1,5 +1,4 @@
 -- `put_case` is safe and ends: the calls left fall.
-use borrow.Author.Rules.{rules}
 use Rattle.replay_reader.proofs.put_case.Given as goal
 
 abbrev pub invariant-loop-left : goal.invariant-loop-left

@@ -6,10 +6,7 @@ use Rattle.sise_parser.specs.declared.reader.Reader.{Reader}
 use Rattle.lines.specs.Put.{Output, put, number}
 use Rattle.lines.proofs.Laws.{put_both}
 use Rattle.replay_reader.specs.Text.{phase_number, reader_text}
-use borrow.Author.Rules.{rules}
 use Rattle.replay_reader.proofs.put_reader.Goals as goal
-
-
 
 record_text : (o : Output) {p q s t : Output} (r : Reader) {n : ℕ} → n ≡ phase_number r.phase → p ≡ put o (32 ∷ 124 ∷ []) → q ≡ put p (number r.position)
     → s ≡ put q (number n) → t ≡ put s (number r.lists) → t ≡ put o (reader_text r)

@@ -1,7 +1,6 @@
 -- `run` meets its contract: the text lies in the script, after the letter.
 use native.Mathlib.Omega.{arith}
 use Rattle.script.proofs.Froms.{text_from}
-use borrow.Author.Rules.{rules}
 use Rattle.replay_reader.proofs.run.Goals as goal
 
 pub overflow_add-end : goal.overflow_add-end

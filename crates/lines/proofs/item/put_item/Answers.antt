@@ -1,13 +1,10 @@
 -- `put_item` meets its contract: each kind of item has its letter and numbers.
 use mathlib.Core.Path.{◌≡◌, sym, ap, ◌∙◌}
 use mathlib.Core.List.{◌∷◌}
-use borrow.Author.Rules.{rules}
 use Rattle.lines.specs.Put.{Output, put, number, item_text}
 use Rattle.sise_parser.specs.declared.reader.ParsedItem.{ParsedItem}
 use Rattle.lines.proofs.Laws.{put_both}
 use Rattle.lines.proofs.item.put_item.Goals as goal
-
-
 
 -- what is put for the item that it is
 put_as_lem : {i j : ParsedItem} {p : Output} (o : Output) → i ≡ j → p ≡ put o (item_text j) → p ≡ put o (item_text i)

@@ -1,5 +1,4 @@
 -- `open_lists` is safe and ends: the lists left fall.
-use borrow.Author.Rules.{rules}
 use lib.ListN.{length}
 use mathlib.Core.Path.{◌≡◌}
 use Rattle.replay.proofs.tree_case.open_lists.Given as goal

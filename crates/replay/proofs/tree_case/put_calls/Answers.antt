@@ -1,5 +1,4 @@
 -- `put_calls` meets its contract: the stores and the paths lie after the line.
-use borrow.Author.Rules.{rules}
 use native.Mathlib.Omega.{arith}
 use Rattle.script.proofs.Froms.{tree_from, numbers_from, onward_after}
 use Rattle.replay.proofs.tree_case.put_calls.Goals as goal

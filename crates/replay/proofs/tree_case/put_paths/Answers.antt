@@ -1,8 +1,6 @@
 -- `put_paths` meets its contract: the paths left fall, and each lies after the last.
 use borrow.Author.Rules.{rules}
-use lib.ListN.{length}
-use mathlib.Core.Path.{◌≡◌, sym}
-use Prim.Native.Nat.{◌<◌}
+use mathlib.Core.Path.{sym}
 use native.Mathlib.Omega.{arith}
 use lib.Seq.{length-take-le}
 use Rattle.script.proofs.Froms.{numbers_from}

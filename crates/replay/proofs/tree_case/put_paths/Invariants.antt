@@ -1,11 +1,7 @@
 -- `put_paths` meets its contract: the paths left fall, and each lies after the last.
-use borrow.Author.Rules.{rules}
 use lib.ListN.{length}
-use mathlib.Core.Path.{◌≡◌, sym}
+use mathlib.Core.Path.{◌≡◌}
 use Prim.Native.Nat.{◌<◌}
-use native.Mathlib.Omega.{arith}
-use lib.Seq.{length-take-le}
-use Rattle.script.proofs.Froms.{numbers_from}
 use Rattle.replay.proofs.tree_case.put_paths.Given as goal
 
 abbrev pub invariant-loop-left : goal.invariant-loop-left

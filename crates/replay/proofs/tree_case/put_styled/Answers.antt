@@ -1,5 +1,4 @@
 -- `put_styled` meets its contract: the style lies in the script, after the line end, and the tree's line after it.
-use borrow.Author.Rules.{rules}
 use native.Mathlib.Omega.{arith}
 use Rattle.script.proofs.Froms.{style_from, onward_after}
 use Rattle.replay.proofs.tree_case.put_styled.Goals as goal

@@ -1,5 +1,4 @@
 -- `put_trees` is safe and ends: the writings left fall.
-use borrow.Author.Rules.{rules}
 use lib.ListN.{length}
 use mathlib.Core.Path.{◌≡◌}
 use Rattle.replay.proofs.tree_case.put_trees.Given as goal

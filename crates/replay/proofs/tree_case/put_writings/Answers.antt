@@ -1,5 +1,4 @@
 -- `put_writings` is safe: each buffer has the room.
-use borrow.Author.Rules.{rules}
 use native.Mathlib.Omega.{arith}
 use mathlib.Core.Path.{sym}
 use lib.Seq.{length-take-le}

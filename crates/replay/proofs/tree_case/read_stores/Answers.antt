@@ -1,5 +1,4 @@
 -- `read_stores` meets its contract: it hands on what it read.
-use borrow.Author.Rules.{rules}
 use mathlib.Core.Path.{sym}
 use native.Mathlib.Omega.{arith}
 use lib.Seq.{length-take-le}

@@ -1,5 +1,4 @@
 -- `reader_after` is safe and ends: the calls left fall.
-use borrow.Author.Rules.{rules}
 use Rattle.replay.proofs.tree_case.reader_after.Given as goal
 
 abbrev pub invariant-loop-left : goal.invariant-loop-left

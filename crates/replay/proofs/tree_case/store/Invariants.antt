@@ -1,5 +1,4 @@
 -- `store` is safe and ends: the pairs left fall.
-use borrow.Author.Rules.{rules}
 use lib.ListN.{length}
 use mathlib.Core.Path.{◌≡◌}
 use Prim.Native.Nat.{◌-◌, ◌≤◌}

@@ -1,10 +1,7 @@
 -- `put_case` meets its contract: the calls left fall, and each lies after the last.
-use borrow.Author.Rules.{rules}
 use lib.ListN.{length}
 use mathlib.Core.Path.{◌≡◌}
 use Prim.Native.Nat.{◌<◌}
-use native.Mathlib.Omega.{arith}
-use Rattle.script.proofs.Froms.{call_from}
 use Rattle.replay.proofs.writer_case.put_case.Given as goal
 
 abbrev pub invariant-loop-left : goal.invariant-loop-left

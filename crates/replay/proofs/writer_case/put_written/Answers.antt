@@ -1,5 +1,4 @@
 -- `put_written` is safe: the part put is within the buffer.
-use borrow.Author.Rules.{rules}
 use mathlib.Core.Path.{sym}
 use lib.Seq.{length-take-le}
 use Rattle.replay.proofs.writer_case.put_written.Goals as goal

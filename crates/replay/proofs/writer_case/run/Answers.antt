@@ -1,5 +1,4 @@
 -- `run` meets its contract: the style lies in the script, after the letter, and the calls after it.
-use borrow.Author.Rules.{rules}
 use native.Mathlib.Omega.{arith}
 use mathlib.Core.Path.{sym}
 use lib.Seq.{length-take-le}
