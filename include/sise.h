@@ -1,7 +1,7 @@
 /*
  * SISE profiles, proved: the calls of the static library sise_c for programs in C. C11.
  *
- *     rt staticlib sise_c                                        writes target/staticlib/libsise_c.a (Linux on x86-64)
+ *     tools/build sise_c                                         writes target/staticlib/libsise_c.a (Linux on x86-64)
  *     cc -I include program.c target/staticlib/libsise_c.a       links it; it needs no other library
  *
  * A text is bytes: one node, which is an atom or a list of nodes, as in (stage (x -12.5 "a b")). Space, tab, LF and CR may stand

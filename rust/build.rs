@@ -1,6 +1,7 @@
 //! Finds the proved library, libsise_c.a, or has it proved and built; and looks for the source of the crate sise 0.8.0, which the differential test runs.
 
 use std::env;
+use std::fs::File;
 use std::path::{Path, PathBuf};
 use std::process::Command;
 use std::time::SystemTime;
@@ -46,36 +47,53 @@ fn library(package: &Path) -> Result<PathBuf, String> {
         };
     }
     let root = package.parent().unwrap_or(package);
-    let crates = root.join("crates");
+    let sources = sources(&root.join("crates"));
     let folder = root.join("target").join("staticlib");
     let archive = folder.join(ARCHIVE);
-    println!("cargo::rerun-if-changed={}", crates.display());
-    println!("cargo::rerun-if-changed={}", archive.display());
-    if !archive.is_file() || changed(&archive) < newest(&crates) {
+    for source in sources.iter().chain([&archive]) {
+        println!("cargo::rerun-if-changed={}", source.display());
+    }
+    let newest = sources.iter().map(|source| newest(source)).max();
+    if !archive.is_file() || Some(changed(&archive)) < newest {
         build(root)?;
     }
     Ok(folder)
 }
 
+/// The folders that the library is proved from: of each crate its code, definitions and proofs, without what a check leaves beside them.
+fn sources(crates: &Path) -> Vec<PathBuf> {
+    let each = crates.read_dir().into_iter().flatten().flatten();
+    let parts =
+        each.flat_map(|entry| ["src", "specs", "proofs"].map(|part| entry.path().join(part)));
+    parts.filter(|part| part.is_dir()).collect()
+}
+
 /// Has the library proved and built; the first time that takes minutes.
 fn build(root: &Path) -> Result<(), String> {
-    let run = Command::new("rt")
-        .args(["staticlib", "sise_c"])
-        .current_dir(root)
+    let run = Command::new(root.join("tools").join("build"))
+        .arg("sise_c")
         .output();
     match run {
-        Ok(output) if output.status.success() => Ok(()),
+        Ok(output) if output.status.success() => {
+            // An archive that is the same keeps its time: it is as new as what it was proved from.
+            let archive = root.join("target").join("staticlib").join(ARCHIVE);
+            let touched = File::options().append(true).open(&archive);
+            touched
+                .and_then(|file| file.set_modified(SystemTime::now()))
+                .map_err(|error| format!("{}: {error}", archive.display()))
+        }
+        Ok(output) if output.status.code() == Some(3) => Err(format!(
+            "the proved library {ARCHIVE} is not built, or older than crates/, and Rattle's `rt` is not on the PATH: \
+             install it, or set SISE_LIB_DIR to a folder with a built {ARCHIVE}"
+        )),
         Ok(output) => {
             let said = [output.stdout, output.stderr].concat();
             let said = String::from_utf8_lossy(&said);
             let last = said.lines().last().unwrap_or("it says nothing");
             let root = root.display();
-            Err(format!("`rt staticlib sise_c` failed in {root}: {last}"))
+            Err(format!("`tools/build sise_c` failed in {root}: {last}"))
         }
-        Err(_) => Err(format!(
-            "the proved library {ARCHIVE} is not built, or older than crates/, and Rattle's `rt` is not on the PATH: \
-             install it, or set SISE_LIB_DIR to a folder with a built {ARCHIVE}"
-        )),
+        Err(error) => Err(format!("tools/build cannot be run: {error}")),
     }
 }
 

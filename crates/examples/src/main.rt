@@ -4,6 +4,7 @@
 // Each gives a line, its name and what was answered: a number, or `refused` with the refusal's number and place. The other rows are proved
 // (specs/Rows.antt of sise_tree_writer).
 #![tactic(auto)]
+
 mod line;
 mod rows;
 mod trees;

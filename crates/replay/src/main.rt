@@ -38,6 +38,7 @@
 // At a case that is malformed, or that the script's end cuts off, the line `malformed` is printed, and nothing after it. Of a writer's case the calls
 // before the malformed one are run, and of a tree's case those of the lines before the malformed one.
 #![tactic(auto)]
+
 mod tree_case;
 mod writer_case;
 

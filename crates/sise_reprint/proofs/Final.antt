@@ -1,31 +1,20 @@
 -- Request 2.4: reprinting is final, and two texts reprint alike exactly when their trees are equal. What is written depends on the threshold and the tree of
--- bytes alone, and is read as that tree; so the second reprint writes what the first wrote. First by the definitions of the two calls, then of what a program
--- got from them.
--- Assumes nothing.
+-- bytes alone, and is read as that tree; so the second reprint writes what the first wrote. By the definitions of the two calls.
 use Prim.Native.Nat.{ℕ, ◌/◌, ◌≤◌}
-use native.Mathlib.Omega.{arith}
-use mathlib.Core.Path.{◌≡◌, refl, sym, ap, ap₂, ◌∙◌, subst}
+use mathlib.Core.Path.{◌≡◌, refl, sym, ◌∙◌, subst}
 use mathlib.Core.List.{List}
-use lib.ListN.{length, length-take}
+use lib.ListN.{length}
 use Rattle.sise_serializer.specs.Calls.{writing}
-use Rattle.sise_serializer.specs.declared.serializer.Serializer.{Serializer}
 use Rattle.sise_layout.specs.Texts as layout
 use Rattle.sise_tree.specs.Tree.{size}
-use Rattle.sise_tree.specs.declared.parse.ParsedTree.{ParsedTree}
-use Rattle.sise_tree.specs.declared.parse.ParsedTree.TheVariants.{Nodes}
 use Rattle.sise_tree_writer.specs.House.{house_style}
 use Rattle.sise_tree_writer.specs.Alike.{Tree, tree_of, ReadsAs}
-use Rattle.sise_tree_writer.specs.declared.serialize.PutTree.{PutTree}
-use Rattle.sise_tree_writer.specs.declared.serialize.PutTree.TheVariants.{At}
-use Rattle.sise_tree_writer.specs.declared.serialize.TreeWrote.{TreeWrote}
-use Rattle.sise_tree_writer.proofs.Lossless.{put_lossless}
 use Rattle.sise_reprint.specs.Equal.{Equal}
-use Rattle.sise_reprint.specs.Reprint.{reprinted, reprint, Fits, Calls, text_by}
+use Rattle.sise_reprint.specs.Reprint.{reprinted, reprint, Fits}
 use Rattle.sise_reprint.proofs.Trees.{whole_calls, whole_calls_lem, equal_same, same_equal, reads_once}
 use Rattle.sise_reprint.proofs.Parsed.{parsed_reads}
-use Rattle.sise_reprint.proofs.House.{printing, Prints, prints_measured, prints_once, prints_reads}
+use Rattle.sise_reprint.proofs.House.{Prints, prints_once, prints_reads}
 use Rattle.sise_reprint.proofs.Reprinted.{Reprinted, tree, was_reprinted, is_reprinted, reprinted_again}
-use Rattle.sise_reprint.proofs.Returned.{returned_reprint, returns_nodes, returns_record, returns_answer, returns_offset, returns_text}
 
 -- ---- the texts that are reprinted
 
@@ -33,7 +22,7 @@ module _ (t : ℕ) (text words buffer : List ℕ) {x : Tree} (r : ReadsAs text x
   abbrev out : List ℕ
   out = layout.text_of (writing house_style buffer (whole_calls t (tree_of text r.node)))
 
-  fits_reprinted : Reprinted t text words buffer (size r.node) out
+  pub fits_reprinted : Reprinted t text words buffer (size r.node) out
   fits_reprinted = record {
     parsed = record { node = r.node; reader = r.reader; reads = r.reads; ends = r.ended; short = f.short; nodes = refl; table = f.table };
     prints = record { fit = rw (← whole_calls_lem text t r.node) f.room; text = refl };
@@ -85,43 +74,3 @@ reprint_alike t text₁ words₁ buffer₁ text₂ words₂ buffer₂ {out₂ = 
       λ e. same_equal (z₁ ∙ reads_once (subst (λ (o : List ℕ). ReadsAs o (tree r₁)) e y₁) y₂ ∙ sym z₂),
       λ e. prints_once r₁.prints (subst (λ (x : Tree). Prints t x buffer₂ out₂) (sym z₂ ∙ sym (equal_same e) ∙ z₁) r₂.prints),
     )
-
--- ---- the same of what a program got that made the two calls
-
--- such a text: parse_text returns its number of nodes, and the house call an offset
-pub returned_accepted : (t : ℕ) (text words buffer : List ℕ) {x : Tree} (r : ReadsAs text x) → Fits t text words buffer r
-    → {parsed : ParsedTree} {table : List ℕ} {wrote : TreeWrote} {now : List ℕ} → Calls t text words buffer parsed table wrote now
-    → (parsed ≡ Nodes (size r.node)) × ((o : ℕ) × (wrote.answer ≡ At o))
-returned_accepted t text words buffer r f c = let h = fits_reprinted t text words buffer r f in (returns_nodes c h, returns_offset c h)
-
--- the calls made once more on the text that was written, with any table that holds the nodes and any buffer that holds the bytes: the same number of nodes,
--- the same answer and record, and the same bytes
-pub returned_final : {t : ℕ} {text words buffer : List ℕ} {k o : ℕ} {table : List ℕ} {wrote : TreeWrote} {now : List ℕ}
-    → Calls t text words buffer (Nodes k) table wrote now → wrote.answer ≡ At o
-    → {words' buffer' : List ℕ} {parsed' : ParsedTree} {table' : List ℕ} {wrote' : TreeWrote} {now' : List ℕ}
-    → Calls t (text_by wrote now) words' buffer' parsed' table' wrote' now' → k ≤ length words' / 4 → wrote.serializer.position ≤ length buffer'
-    → (parsed' ≡ Nodes k) × (wrote' ≡ wrote) × (text_by wrote' now' ≡ text_by wrote now)
-returned_final {t} {text} {words} {buffer} {k} {o} {table} {wrote} {now} c w {words'} {buffer'} {parsed'} {table'} {wrote'} {now'} c' nodes room =
-    let out = text_by wrote now in
-    let r = was_reprinted t text words buffer (returned_reprint c refl w) in
-    let held : length out ≤ length buffer' = omega (arith, length-take wrote.serializer.position now) in
-    let r' = reprinted_again r r words' buffer' nodes held in
-    let one : tree r' ≡ tree r = reads_once (parsed_reads r'.parsed) (prints_reads t r.parsed buffer r.prints) in
-    let (record_same, answer-same) = prints_measured t (tree r) buffer r.prints buffer' held in
-    let serializer : wrote'.serializer ≡ wrote.serializer =
-    returns_record c' r' ∙ ap (λ (x : Tree). (printing t x buffer').serializer) one ∙ record_same ∙ sym (returns_record c r) in
-    let answer : wrote'.answer ≡ wrote.answer =
-    put_lossless wrote'.answer wrote.answer (returns_answer c' r' ∙ ap (λ (x : Tree). (printing t x buffer').answer) one ∙ answer-same ∙ sym (returns_answer c r)) in
-    (returns_nodes c' r', ap₂ (λ (x : Serializer) (y : PutTree). wrote_with x y) serializer answer, returns_text c' r')
-  where
-    wrote_with : Serializer → PutTree → TreeWrote
-    wrote_with x y = record { serializer = x; answer = y }
-
--- two programs, each with a text, a table and a buffer of its own: they wrote the same bytes exactly if their trees are equal
-pub returned_alike : {t : ℕ}
-    {text₁ words₁ buffer₁ table₁ now₁ text₂ words₂ buffer₂ table₂ now₂ : List ℕ} {k₁ o₁ k₂ o₂ : ℕ} {wrote₁ wrote₂ : TreeWrote} {x₁ x₂ : Tree}
-    → ReadsAs text₁ x₁ → Calls t text₁ words₁ buffer₁ (Nodes k₁) table₁ wrote₁ now₁ → wrote₁.answer ≡ At o₁
-    → ReadsAs text₂ x₂ → Calls t text₂ words₂ buffer₂ (Nodes k₂) table₂ wrote₂ now₂ → wrote₂.answer ≡ At o₂
-    → (text_by wrote₁ now₁ ≡ text_by wrote₂ now₂ → Equal x₁ x₂) × (Equal x₁ x₂ → text_by wrote₁ now₁ ≡ text_by wrote₂ now₂)
-returned_alike {t} {text₁} {words₁} {buffer₁} {text₂ = text₂} {words₂ = words₂} {buffer₂ = buffer₂} a₁ c₁ w₁ a₂ c₂ w₂ =
-    reprint_alike t text₁ words₁ buffer₁ text₂ words₂ buffer₂ a₁ (returned_reprint c₁ refl w₁) a₂ (returned_reprint c₂ refl w₂)

@@ -14,7 +14,8 @@ use Rattle.sise_reprint.specs.Equal.{Equal, atoms, lists, more}
 use Rattle.sise_reprint.specs.Reprint.{reprinted, reprint, Calls, text_by}
 use Rattle.sise_reprint.specs.Examples.{used, odd_text, other_text, broken, line, reprints, worked_tree, other_tree, worked_reads, odd_reads, other_reads, calls_made}
 use Rattle.sise_reprint.proofs.Trees.{same_equal}
-use Rattle.sise_reprint.proofs.Final.{reprint_final, reprint_through, reprint_alike, returned_final}
+use Rattle.sise_reprint.proofs.Final.{reprint_final, reprint_through, reprint_alike}
+use Rattle.sise_reprint.proofs.FinalCalls.{returned_final}
 
 module _ (words' buffer' : List ℕ) (nodes : 6 ≤ length words' / 4) where
   -- on one line

@@ -4,4 +4,5 @@ pub mod House
 pub mod Reprinted
 pub mod Returned
 pub mod Final
+pub mod FinalCalls
 pub mod Instances

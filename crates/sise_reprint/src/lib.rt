@@ -1,3 +1,3 @@
-// Request 2.4: reprinting is final. A theorem, and no code: it stands in proofs/Final.antt, first by the definitions of the two calls that a program makes, then
-// of what they return.
+// Request 2.4: reprinting is final. A theorem, and no code: it stands in proofs/Final.antt by the definitions of the two calls that a program makes, and in
+// proofs/FinalCalls.antt of what they return.
 #![tactic(auto)]

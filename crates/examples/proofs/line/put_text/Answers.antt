@@ -1,5 +1,4 @@
 -- `put_text` is safe: the part put is within the buffer.
-use borrow.Author.Rules.{rules}
 use mathlib.Core.Path.{sym}
 use lib.Seq.{length-take-le}
 use Rattle.examples.proofs.line.put_text.Goals as goal

@@ -1,8 +1,6 @@
 -- `nested` is safe and ends: the lists left fall.
-use borrow.Author.Rules.{rules}
 use lib.ListN.{length}
 use mathlib.Core.Path.{◌≡◌}
-use Prim.Native.Nat.{◌-◌}
 use Rattle.examples.proofs.rows.nested.Given as goal
 
 abbrev pub invariant-loop-left : goal.invariant-loop-left

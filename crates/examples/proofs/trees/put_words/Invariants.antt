@@ -1,5 +1,4 @@
 -- `put_words` is safe and ends: the words left fall.
-use borrow.Author.Rules.{rules}
 use lib.ListN.{length}
 use Prim.Native.Nat.{◌≤◌, ◌-◌}
 use Rattle.examples.proofs.trees.put_words.Given as goal

@@ -1,5 +1,4 @@
 -- `put_writing` is safe and ends: the calls left fall.
-use borrow.Author.Rules.{rules}
 use lib.ListN.{length}
 use mathlib.Core.Path.{◌≡◌}
 use Prim.Native.Nat.{◌≤◌, ◌-◌}
