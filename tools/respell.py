@@ -3,7 +3,7 @@
 
 usage: python3 tools/respell.py      at the top of the repository, once, right behind /opt/rattle/port/port.py
 
-    isAtomChr -> is_atom_chr    plain-kind -> plain_kind    outside-cons (a law of `outside`) stays    Answer·item -> answer_item
+    isAtomChr -> is_atom_chr    plain-kind -> plain_kind    length-render (a law of `length`) stays    Answer·item -> answer_item
 
 A name is the repository's own if one of its .antt files declares it. Functions of src/, strings, inputs and outputs keep their names. Where two names
 fall together, the definition has the name, and the law gets `_lem` behind it. In comments only names in backticks are turned. It prints what fell

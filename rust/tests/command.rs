@@ -271,6 +271,8 @@ fn fmt_in_place_of_links() {
         .permissions()
         .mode();
     assert_eq!(mode & 0o777, 0o640);
+    // `rt ci` refuses a checkout with a link in it.
+    fs::remove_file(folder.join("link")).unwrap();
 }
 
 #[test]

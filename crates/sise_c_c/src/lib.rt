@@ -178,7 +178,7 @@ pub extern "C" fn sise_read_items(text: &[u8], words: &mut [u64], values: &mut V
     sise_c::sise_read_items(text, words, values)
 }
 
-// Runs a list of writer calls, and returns how many bytes of the buffer are written. `ran` is how many calls ran.
+// Runs a list of writer calls, as write_calls of sise_serializer does, and returns how many bytes of the buffer are written. `ran` is how many calls ran.
 #[unsafe(no_mangle)]
 pub extern "C" fn sise_write_calls(
     words: &[u64],

@@ -1,4 +1,5 @@
 -- `put_byte` meets its contract: the byte goes to the place in the block, or to the start of the next one.
+use native.Mathlib.Omega.{arith}
 use mathlib.Core.Path.{◌≡◌, sym, ap}
 use mathlib.Core.Bool.{Bool, cond}
 use mathlib.Core.List.{List, [], ◌∷◌}
@@ -22,7 +23,7 @@ unfolding place_in
 next_block o at h = ap (λ (b : Bool). cond b at 0) (le-ltb at 4096 h)
 
 pub returns-then-at-lt4096 : goal.returns-then-at-lt4096
-returns-then-at-lt4096 c = placed _ _ _ (in_block _ _ c.if-at-lt4096.true)
+returns-then-at-lt4096 c = placed _ _ _ (in_block _ _ (omega arith))
 
 pub returns : goal.returns
-returns c = placed _ _ _ (next_block _ _ c.if-at-lt4096.false)
+returns c = placed _ _ _ (next_block _ _ (omega arith))

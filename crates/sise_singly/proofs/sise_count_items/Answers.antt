@@ -76,4 +76,4 @@ pub returns-then-left-eq0 : goal.returns-then-left-eq0
 returns-then-left-eq0 c = last c.loop-count.invariant c.next_item-next.ensures c.in-Item.is c.if-left-eq0.true
 
 pub loop-count-preserved : goal.loop-count-preserved
-loop-count-preserved c = on c.loop-count.invariant c.next_item-next.ensures c.in-Item.is c.if-left-eq0.false
+loop-count-preserved c = on c.loop-count.invariant c.next_item-next.ensures c.in-Item.is (λ (z : c.loop-count.left ≡ 0). omega arith)

@@ -27,7 +27,7 @@ pub returns-then-src-k : goal.returns-then-src-k
 returns-then-src-k c = λ e. absurd (false≢true e)
 
 pub loop-k-preserved : goal.loop-k-preserved
-loop-k-preserved c = let l = c.loop-k in (next _ l.k c.loop-k-test.true c.if-src-k.false l.invariant.0, omega arith)
+loop-k-preserved c = let l = c.loop-k in (next _ l.k c.loop-k-test.true (omega arith) l.invariant.0, omega arith)
 
 pub returns : goal.returns
 returns c =

@@ -1,4 +1,5 @@
 -- By the kind and its number: the word is compared with that number, or, for no atom, with 1 to 3.
+use native.Mathlib.Omega.{arith}
 use Rattle.sise_tree.proofs.HeldLaws.{kind_same, kind_other, none_zero, none_large, none_fits}
 use Rattle.sise_tree.proofs.tree.kind_holds.Goals as goal
 
@@ -12,7 +13,7 @@ pub returns-then-kind-eq0 : goal.returns-then-kind-eq0
 returns-then-kind-eq0 c = let a = c.args in none_zero a.kind a.atom c.number-number.ensures c.if-number-ne0.false c.if-kind-eq0.true
 
 pub returns-then-kind-gt3 : goal.returns-then-kind-gt3
-returns-then-kind-gt3 c = let a = c.args in none_large a.kind a.atom c.number-number.ensures c.if-number-ne0.false c.if-kind-eq0.false c.if-kind-gt3.true
+returns-then-kind-gt3 c = let a = c.args in none_large a.kind a.atom c.number-number.ensures c.if-number-ne0.false c.if-kind-eq0.false (omega arith)
 
 pub returns : goal.returns
-returns c = let a = c.args in none_fits a.kind a.atom c.number-number.ensures c.if-number-ne0.false c.if-kind-eq0.false c.if-kind-gt3.false
+returns c = let a = c.args in none_fits a.kind a.atom c.number-number.ensures c.if-number-ne0.false c.if-kind-eq0.false (omega arith)
