@@ -3,7 +3,7 @@
 ghost use Rattle.std.specs.Prelude.{◌≡◌};
 ghost use Rattle.sise_parser.specs.Refusals.{refusal_of};
 
-#[derive(Clone, Copy)]
+#[derive(Clone, Copy, Debug, PartialEq, Eq)]
 pub enum ParseError {
     // A character that begins no token.
     IllegalChr { pos: usize, chr: u32 },
@@ -54,17 +54,15 @@ impl ParseError {
         ensures { result ≡ (refusal_of self).place }
     {
         match self {
-            ParseError::IllegalChr { pos, .. } => pos,
-            ParseError::IllegalChrInString { pos, .. } => pos,
-            ParseError::IllegalChrInComment { pos, .. } => pos,
-            ParseError::UnfinishedString { pos } => pos,
-            ParseError::UnexpectedEof { pos } => pos,
-            ParseError::UnexpectedRightParen { pos } => pos,
-            ParseError::ExpectedEof { pos } => pos,
-            ParseError::IllFormedChr { pos } => pos,
-            ParseError::ParsingFinished => 0,
-            ParseError::ParsingNotFinished => 0,
-            ParseError::UnsoundRecord => 0,
+            ParseError::IllegalChr { pos, .. }
+            | ParseError::IllegalChrInString { pos, .. }
+            | ParseError::IllegalChrInComment { pos, .. }
+            | ParseError::UnfinishedString { pos }
+            | ParseError::UnexpectedEof { pos }
+            | ParseError::UnexpectedRightParen { pos }
+            | ParseError::ExpectedEof { pos }
+            | ParseError::IllFormedChr { pos } => pos,
+            _ => 0,
         }
     }
 
@@ -73,17 +71,10 @@ impl ParseError {
         ensures { result ≡ (refusal_of self).code }
     {
         match self {
-            ParseError::IllegalChr { chr, .. } => chr,
-            ParseError::IllegalChrInString { chr, .. } => chr,
-            ParseError::IllegalChrInComment { chr, .. } => chr,
-            ParseError::UnfinishedString { .. } => 0,
-            ParseError::UnexpectedEof { .. } => 0,
-            ParseError::UnexpectedRightParen { .. } => 0,
-            ParseError::ExpectedEof { .. } => 0,
-            ParseError::IllFormedChr { .. } => 0,
-            ParseError::ParsingFinished => 0,
-            ParseError::ParsingNotFinished => 0,
-            ParseError::UnsoundRecord => 0,
+            ParseError::IllegalChr { chr, .. }
+            | ParseError::IllegalChrInString { chr, .. }
+            | ParseError::IllegalChrInComment { chr, .. } => chr,
+            _ => 0,
         }
     }
 }

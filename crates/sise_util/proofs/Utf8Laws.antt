@@ -112,11 +112,12 @@ record Read (rs : List Range) (c n : ℕ) (l : List ℕ) (d k : ℕ) : Type 0 wh
   code : d ≡ bits_of c octets
   count : k ≡ n
 
+-- what the two kinds of answer hold
 abbrev code_in : Result Character IllFormed → ℕ
 code_in (Ok c) = c.code
 code_in (Err i) = 0
 
-abbrev size_in : Result Character IllFormed → ℕ
+abbrev pub size_in : Result Character IllFormed → ℕ
 size_in (Ok c) = c.len
 size_in (Err i) = i.len
 

@@ -10,7 +10,7 @@ overflow_add-lists c = let o = c.if-lists-position.true in omega (arith, leb-tru
 
 pub returns-then-byte-eq40 : goal.returns-then-byte-eq40
 returns-then-byte-eq40 c =
-    c.item.ensures
+    c.answered.ensures
     ∙ opened_here c.args.text.now c.args.self c.in-Parsing.is c.if-position-text.true c.if-lists-position.true
     c.if-lists-gt1.true c.if-byte-eq40.true
 
@@ -19,6 +19,6 @@ overflow_sub-lists c = let k = c.if-lists-gt1.true in omega (arith, ltb-true)
 
 pub returns-then-byte-eq41 : goal.returns-then-byte-eq41
 returns-then-byte-eq41 c =
-    c.item-then-byte-eq41.ensures
+    c.answered-then-byte-eq41.ensures
     ∙ closed_here c.args.text.now c.args.self c.in-Parsing.is c.if-position-text.true c.if-lists-position.true
     c.if-lists-gt1.true c.if-byte-eq41.true
