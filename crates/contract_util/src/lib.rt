@@ -2,9 +2,9 @@
 // edit of must-fail/ puts a wrong program in the place of a body, and the contract has to refuse it.
 #![tactic(auto)]
 
-ghost use Rattle.std.specs.Prelude.{◌≡◌, drop};
+ghost use Rattle.std.specs.Prelude.{◌≡◌, drop, is_some};
 ghost use Rattle.sise_util.specs.Chars.{is_atom_chr, is_string_chr};
-ghost use Rattle.sise_util.specs.Atom.{kind_of, kind_prefix, kind_number, is_kind};
+ghost use Rattle.sise_util.specs.Atom.{kind_of, kind_prefix, kind_number};
 ghost use Rattle.sise_util.specs.Classes.{class_of, class_number, class_table};
 ghost use Rattle.sise_util.specs.Utf8.{character};
 
@@ -57,7 +57,7 @@ pub fn kind_number(kind: Option<AtomKind>) -> u32
 
 // Whether it is an atom at all.
 pub fn kind_is_atom(kind: Option<AtomKind>) -> bool
-    ensures { result ≡ is_kind kind }
+    ensures { result ≡ is_some kind }
 {
     kind.is_some()
 }

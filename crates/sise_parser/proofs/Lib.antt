@@ -1,5 +1,6 @@
 pub mod Steps
 pub mod ByteSteps
+pub mod Runs
 pub mod Induction
 pub mod Placed
 pub mod Calls

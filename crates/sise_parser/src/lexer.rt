@@ -1,10 +1,10 @@
 // Tokens (parser.rs, `Lexer`). The table of classes is built anew at each use, so it serves where a run of bytes is long, in strings and comments; a
 // token's first byte and an atom's bytes are tested by cases and by a mask.
 ghost use Rattle.std.specs.Prelude.{◌≡◌, ◌≤◌, ◌<◌, eqb, length, drop, get_or};
-ghost use Rattle.sise_util.specs.Classes.{class_table};
+ghost use Rattle.sise_util.specs.Classes.{class_of, class_table};
 ghost use Rattle.sise_parser.specs.Refusals.{refusal, refusal_of};
 ghost use Rattle.sise_parser.specs.Lexer.{between, plain, unfinished, wrong};
-ghost use Rattle.sise_parser.specs.Plain.{skip_blanks, atom_run, AtomTo};
+ghost use Rattle.sise_parser.specs.Plain.{is_blank, skip_blanks, atom_run, AtomTo};
 ghost use Rattle.sise_parser.specs.Meaning.{lexed_as, wrong_as, place_number, Reads, Ends};
 
 use crate::error::ParseError;
@@ -136,29 +136,31 @@ fn lex_string(text: &[u8], from: usize) -> Result<usize, Wrong>
     }
 }
 
-// The first place from `from` on that holds no blank, or the end. The arms of blanks are two, since Rattle makes a range of neighbours.
+// Whether `byte` is a blank. The arms are two, since Rattle makes a range of neighbours.
+fn is_blank(byte: u8) -> bool
+    ensures { result ≡ is_blank (class_of byte) }
+{
+    match byte {
+        b' ' | b'\n' => true,
+        b'\t' | b'\r' => true,
+        _ => false,
+    }
+}
+
+// The first place from `from` on that holds no blank, or the end.
 pub fn skip_blanks(text: &[u8], from: usize) -> usize
     ensures same { result ≡ skip_blanks (drop from text.now) from }
     ensures after { from ≤ result }
     ensures token { between (drop from text.now) from ≡ between (drop result text.now) result }
 {
-    let mut at = from;
-    loop {
-        if text.len() <= at {
-            return at;
-        }
-        match text[at] {
-            b' ' | b'\n' => {
-                at += 1;
-            }
-            b'\t' | b'\r' => {
-                at += 1;
-            }
-            _ => {
-                return at;
-            }
-        }
-    }
+    let Some(rest) = text.get(from..) else {
+        return from;
+    };
+    let blanks = rest
+        .iter()
+        .position(|byte| !is_blank(*byte))
+        .unwrap_or(rest.len());
+    from + blanks
 }
 
 // The end of the run of atom characters that begins at `start`.
@@ -167,17 +169,14 @@ pub fn atom_run(text: &[u8], start: usize) -> usize
     ensures after { start ≤ result }
     ensures token { AtomTo text.now start result }
 {
-    let mut at = start;
-    loop {
-        if text.len() <= at {
-            return at;
-        }
-        if is_atom_byte(text[at]) {
-            at += 1;
-        } else {
-            return at;
-        }
-    }
+    let Some(rest) = text.get(start..) else {
+        return start;
+    };
+    let run = rest
+        .iter()
+        .position(|byte| !is_atom_byte(*byte))
+        .unwrap_or(rest.len());
+    start + run
 }
 
 // Whether a `"` stands at `at`.

@@ -9,4 +9,4 @@ mod reader;
 pub use error::ParseError;
 pub use lexer::{atom_run, is_quote_at, skip_blanks};
 pub use parser::{Parsed, Parser};
-pub use reader::{Next, ParsedItem, Phase, Reader, atom_bytes, item_ahead};
+pub use reader::{Next, ParsedItem, Phase, Reader, UnknownPhase, atom_bytes, item_ahead};

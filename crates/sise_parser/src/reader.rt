@@ -1,6 +1,7 @@
 // The reader's record and its two calls.
 ghost use Rattle.std.specs.Prelude.{◌≡◌, ◌≤◌, ◌<◌, ◌^◌};
 ghost use Rattle.sise_parser.specs.Reader.{fresh_reader, lists_fit, is_sound, in_beginning, in_parsing, next_item, finish_reading, part_of, next, reader};
+ghost use Rattle.sise_parser.specs.Phases.{ReadsPhase};
 ghost use Rattle.sise_parser.specs.Meaning.{lexeme_as, answer_as, next_as, finished_as};
 
 use crate::error::ParseError;
@@ -12,6 +13,26 @@ pub enum Phase {
     Beginning,
     Parsing,
     Finishing,
+}
+
+// A number that no phase has.
+#[derive(Clone, Copy, Debug, PartialEq, Eq)]
+pub struct UnknownPhase(pub u64);
+
+// The phase with a number: 0 beginning, 1 parsing, 2 finishing.
+impl TryFrom<u64> for Phase {
+    type Error = UnknownPhase;
+
+    ghost try_from_gives = { ReadsPhase };
+
+    fn try_from(word: u64) -> Result<Phase, UnknownPhase> {
+        match word {
+            0 => Ok(Phase::Beginning),
+            1 => Ok(Phase::Parsing),
+            2 => Ok(Phase::Finishing),
+            _ => Err(UnknownPhase(word)),
+        }
+    }
 }
 
 // The reader's record, which each call takes and hands back: the position, the phase and the number of open lists.

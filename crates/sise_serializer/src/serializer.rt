@@ -263,8 +263,7 @@ fn spaces_before(list_beginning: bool) -> usize
 fn is_atom(atom: &[u8]) -> bool
     ensures { result ≡ is_atom atom.now }
 {
-    let kind = check_atom(atom);
-    kind.is_atom()
+    check_atom(atom).is_some()
 }
 
 pub(crate) fn write_atom(

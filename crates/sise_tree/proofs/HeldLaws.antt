@@ -1,5 +1,6 @@
 -- What a node says of what a table holds, by the tests of the code; and the whole by its nodes.
 -- Assumes nothing.
+use Rattle.std.specs.Prelude.{is_some}
 use Prim.Native.Nat.{ℕ, ◌+◌, ◌/◌, ◌≤◌, ◌<◌}
 use native.Mathlib.Omega.{arith}
 use mathlib.Core.Path.{◌≡◌, refl, sym, ap, ◌∙◌}
@@ -12,7 +13,7 @@ use denote.Enum.Declared.{tag_of}
 use lib.Dec.{ltb}
 use lib.ListN.{length, drop}
 use borrow.Author.Tests.{le-leb, lt-leb, eq-eqb, ne_eqb, ltb-true, ltb-false}
-use Rattle.sise_util.specs.Atom.{kind_number, is_kind, kind_prefix}
+use Rattle.sise_util.specs.Atom.{kind_number, kind_prefix}
 use Rattle.sise_util.specs.declared.util.AtomKind.{AtomKind}
 use Rattle.sise_util.specs.declared.util.AtomKind.TheVariants.{Plain, String, Mixed, No}
 use Rattle.sise_util.proofs.Ranges.{split, and_first, and_second}
@@ -31,31 +32,31 @@ use Rattle.sise_tree.proofs.AtomsHold.{tree_all, tree_fails}
 -- ---- an atom's first word, by its kind's number
 
 module _ (k : ℕ) where
-  pub kind_same : (a : AtomKind) {n : ℕ} → n ≡ kind_number a → (n ≡ 0 → ⊥) → k ≡ n → Tree ≡ held_if (fits_kind a k) (is_kind a)
+  pub kind_same : (a : AtomKind) {n : ℕ} → n ≡ kind_number a → (n ≡ 0 → ⊥) → k ≡ n → Tree ≡ held_if (fits_kind a k) (is_some a)
   kind_same Plain e z q = rw (eq-eqb k 1 (q ∙ e))
   kind_same String e z q = rw (eq-eqb k 2 (q ∙ e))
   kind_same Mixed e z q = rw (eq-eqb k 3 (q ∙ e))
   kind_same No e z q = absurd (z e)
 
-  pub kind_other : (a : AtomKind) {n : ℕ} → n ≡ kind_number a → (n ≡ 0 → ⊥) → (k ≡ n → ⊥) → NotATree ≡ held_if (fits_kind a k) (is_kind a)
+  pub kind_other : (a : AtomKind) {n : ℕ} → n ≡ kind_number a → (n ≡ 0 → ⊥) → (k ≡ n → ⊥) → NotATree ≡ held_if (fits_kind a k) (is_some a)
   kind_other Plain e z q = rw (ne_eqb k 1 (λ (y : k ≡ 1). q (y ∙ sym e)))
   kind_other String e z q = rw (ne_eqb k 2 (λ (y : k ≡ 2). q (y ∙ sym e)))
   kind_other Mixed e z q = rw (ne_eqb k 3 (λ (y : k ≡ 3). q (y ∙ sym e)))
   kind_other No e z q = absurd (z e)
 
-  pub none_zero : (a : AtomKind) {n : ℕ} → n ≡ kind_number a → n ≡ 0 → k ≡ 0 → NotATree ≡ held_if (fits_kind a k) (is_kind a)
+  pub none_zero : (a : AtomKind) {n : ℕ} → n ≡ kind_number a → n ≡ 0 → k ≡ 0 → NotATree ≡ held_if (fits_kind a k) (is_some a)
   none_zero Plain e z q = absurd (omega arith)
   none_zero String e z q = absurd (omega arith)
   none_zero Mixed e z q = absurd (omega arith)
   none_zero No e z q = rw (lt-leb 1 k (omega arith))
 
-  pub none_large : (a : AtomKind) {n : ℕ} → n ≡ kind_number a → n ≡ 0 → (k ≡ 0 → ⊥) → 3 < k → NotATree ≡ held_if (fits_kind a k) (is_kind a)
+  pub none_large : (a : AtomKind) {n : ℕ} → n ≡ kind_number a → n ≡ 0 → (k ≡ 0 → ⊥) → 3 < k → NotATree ≡ held_if (fits_kind a k) (is_some a)
   none_large Plain e z f q = absurd (omega arith)
   none_large String e z f q = absurd (omega arith)
   none_large Mixed e z f q = absurd (omega arith)
   none_large No e z f q = rw (le-leb 1 k (omega arith), lt-leb k 3 q)
 
-  pub none_fits : (a : AtomKind) {n : ℕ} → n ≡ kind_number a → n ≡ 0 → (k ≡ 0 → ⊥) → k ≤ 3 → NoAtom ≡ held_if (fits_kind a k) (is_kind a)
+  pub none_fits : (a : AtomKind) {n : ℕ} → n ≡ kind_number a → n ≡ 0 → (k ≡ 0 → ⊥) → k ≤ 3 → NoAtom ≡ held_if (fits_kind a k) (is_some a)
   none_fits Plain e z f q = absurd (omega arith)
   none_fits String e z f q = absurd (omega arith)
   none_fits Mixed e z f q = absurd (omega arith)
@@ -86,7 +87,7 @@ module _ (text words : List ℕ) where
         unfolding sits
         held_past h = rw (good_atom text words 0 within ex ey es k one, lt-leb (x + y) (length text) h)
 
-        pub held_atom : x + y ≤ length text → held_if (fits_kind (kind_prefix (drop x text) y) (kind words 0)) (is_kind (kind_prefix (drop x text) y)) ≡ here
+        pub held_atom : x + y ≤ length text → held_if (fits_kind (kind_prefix (drop x text) y) (kind words 0)) (is_some (kind_prefix (drop x text) y)) ≡ here
         unfolding sits atom_holds_at
         held_atom h = rw (good_atom text words 0 within ex ey es k one, le-leb (x + y) (length text) h, ne_eqb (kind words 0) 0 k, ← ex, ← ey, kind_prefix_lem (drop x text) y)
 

@@ -1,5 +1,6 @@
 -- How long a table is, and that words hold a tree exactly if they are its table, at any distance from a parent, and any words after it.
 -- Assumes nothing.
+use Rattle.std.specs.Prelude.{is_some}
 use Prim.Native.Nat.{ℕ, ◌+◌, ◌*◌, ◌≤◌}
 use native.Mathlib.Omega.{arith}
 use mathlib.Core.Path.{◌≡◌, refl, sym, ap, ◌∙◌}
@@ -9,7 +10,7 @@ use lib.ListN.{length, take, drop, length-append, length-take, length-drop, take
 use lib.Seq.{take-append_seam}
 use lib.Dec.{leb}
 use borrow.Author.Tests.{eqb-true, leb-true, le-leb}
-use Rattle.sise_util.specs.Atom.{Atom, kind_number, is_kind, kind_prefix, is_atom_prefix}
+use Rattle.sise_util.specs.Atom.{Atom, kind_number, kind_prefix, is_atom_prefix}
 use Rattle.sise_util.specs.declared.util.AtomKind.{AtomKind}
 use Rattle.sise_util.specs.declared.util.AtomKind.TheVariants.{Plain, String, Mixed, No}
 use Rattle.sise_util.proofs.Ranges.{and_first, and_second, both}
@@ -34,7 +35,7 @@ sits_kind text k p n h z = of (kind_prefix (drop p text) n) (and_second (leb (p 
     of No e = omega (arith, leb-true 1 k (and_first (leb 1 k) (leb k 3) e), z)
 
 -- the kind of an atom is its own
-fits_own : (a : AtomKind) → is_kind a ≡ true → fits_kind a (kind_number a) ≡ true
+fits_own : (a : AtomKind) → is_some a ≡ true → fits_kind a (kind_number a) ≡ true
 fits_own Plain e = refl
 fits_own String e = refl
 fits_own Mixed e = refl

@@ -1,6 +1,5 @@
 // Tables: whether one holds a tree, and the node at the end of a path.
-ghost use Rattle.std.specs.Prelude.{◌≡◌, ◌&&◌, ◌+◌, ◌-◌, ◌*◌, ◌/◌, ◌^◌, ◌≤◌, ◌<◌, eqb, length, get_or};
-ghost use Rattle.sise_util.specs.Atom.{is_kind};
+ghost use Rattle.std.specs.Prelude.{◌≡◌, ◌&&◌, ◌+◌, ◌-◌, ◌*◌, ◌/◌, ◌^◌, ◌≤◌, ◌<◌, eqb, length, get_or, is_some};
 ghost use Rattle.sise_tree.specs.Tree.{kind, linked, fills_in, fits_kind};
 ghost use Rattle.sise_tree.specs.Parts.{SameFrom, good_in, atom_holds_at, stepped, MoreThan};
 ghost use Rattle.sise_tree.specs.Decision.{decide};
@@ -138,7 +137,7 @@ fn fills(table: &[u32], children: usize, end: usize) -> bool
 
 // Whether an atom's first word may be `kind`, where its bytes are `atom`: the number of that kind, and each of the three where they are no atom.
 fn kind_holds(kind: u32, atom: AtomKind) -> Held
-    ensures { result ≡ held_if (fits_kind atom kind) (is_kind atom) }
+    ensures { result ≡ held_if (fits_kind atom kind) (is_some atom) }
 {
     let number = atom.number();
     if number != 0 {

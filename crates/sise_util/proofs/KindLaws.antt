@@ -10,9 +10,9 @@ use native.Mathlib.Omega.{arith}
 use lib.Dec.{eqb, leb}
 use lib.ListN.{length, take, drop, length-drop}
 use borrow.Author.Tests.{eqb-true, eq-eqb, ne_eqb, eqb-false}
-use Rattle.std.specs.Prelude.{Option, Some, None}
+use Rattle.std.specs.Prelude.{Option, Some, None, is_some}
 use Rattle.sise_util.specs.Chars.{is_string_chr, is_escaped_chr}
-use Rattle.sise_util.specs.Atom.{Inside, empty, chr, escape, string, Atom, one, inside, escaped, is_atom, has_quote, ends_string, ends_escaped, is_string, kind_of, kind_number, is_kind, kind_prefix, is_atom_prefix}
+use Rattle.sise_util.specs.Atom.{Inside, empty, chr, escape, string, Atom, one, inside, escaped, is_atom, has_quote, ends_string, ends_escaped, is_string, kind_of, kind_number, kind_prefix, is_atom_prefix}
 use Rattle.sise_util.specs.declared.util.AtomKind.{AtomKind}
 use Rattle.sise_util.specs.declared.util.AtomKind.TheVariants.{Plain, String, Mixed}
 use Rattle.sise_util.proofs.Ranges.{split, and_first, and_second}
@@ -39,15 +39,15 @@ module _ (a : List ℕ) where
     kind_mixed q s = rw (e, q, s)
 
   -- "Putting an atom needs only whether it is no"
-  pub kind_atom : is_kind (kind_of a) ≡ is_atom a
+  pub kind_atom : is_some (kind_of a) ≡ is_atom a
   kind_atom =
       split (is_atom a)
       (λ e. split (has_quote a)
-      (λ q. split (is_string a) (λ s. ap is_kind (sym (kind_string e q s)) ∙ sym e) (λ s. ap is_kind (sym (kind_mixed e q s)) ∙ sym e))
-      (λ q. ap is_kind (sym (kind_plain e q)) ∙ sym e))
-      (λ e. ap is_kind (sym (kind_no e)) ∙ sym e)
+      (λ q. split (is_string a) (λ s. ap is_some (sym (kind_string e q s)) ∙ sym e) (λ s. ap is_some (sym (kind_mixed e q s)) ∙ sym e))
+      (λ q. ap is_some (sym (kind_plain e q)) ∙ sym e))
+      (λ e. ap is_some (sym (kind_no e)) ∙ sym e)
 
-pub kind_prefix_lem : (rest : List ℕ) (n : ℕ) → is_kind (kind_prefix rest n) ≡ is_atom_prefix rest n
+pub kind_prefix_lem : (rest : List ℕ) (n : ℕ) → is_some (kind_prefix rest n) ≡ is_atom_prefix rest n
 unfolding kind_prefix is_atom_prefix
 kind_prefix_lem rest n = split (leb n (length rest)) (λ e. rw e (kind_atom (take n rest))) (λ e. rw e)
 

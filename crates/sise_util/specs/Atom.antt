@@ -116,11 +116,6 @@ kind_number (Some String) = 2
 kind_number (Some Mixed) = 3
 kind_number None = 0
 
--- "Putting an atom needs only whether it is no"
-abbrev pub is_kind : Option AtomKind → Bool
-is_kind (Some k) = true
-is_kind None = false
-
 -- ---- the check of tree calls: the first n bytes of the rest of a text; "a length past that part is 17"
 
 unfoldable pub kind_prefix : List ℕ → ℕ → Option AtomKind

@@ -1,13 +1,10 @@
 -- `sise_parser::Reader::finish` meets its contract: refusals 11 and 10 first, then whether the token is the text's end.
 use mathlib.Core.Path.{◌≡◌, refl, sym, ap, ◌∙◌}
-use Prim.Native.Nat.{ℕ}
-use Rattle.std.specs.Prelude.{Result, Ok, Err}
 use Rattle.std.proofs.lemmas.Result.{err_from_is_err_and}
 use Rattle.sise_parser.specs.Refusals.{refusal}
 use Rattle.sise_parser.specs.Lexer.{found}
 use Rattle.sise_parser.specs.Reader.{token_at, ended, not_ended, ends_at}
-use Rattle.sise_parser.specs.Meaning.{lexed_as, lexeme_as, token_as}
-use Rattle.sise_parser.specs.declared.lexer.Wrong.{Wrong}
+use Rattle.sise_parser.specs.Meaning.{lexeme_as, token_as}
 use Rattle.sise_parser.specs.declared.lexer.Lexeme.{Lexeme}
 use Rattle.sise_parser.specs.declared.lexer.Token.{Token}
 use Rattle.sise_parser.specs.declared.lexer.Token.TheVariants.{Eof, LeftParen, RightParen, Atom}
