@@ -10,7 +10,7 @@ ghost use Rattle.std.specs.Prelude.{◌<◌};
 
 use lines::Block;
 use sise_util::classes::class_of;
-use sise_util::{AtomKind, Character};
+use sise_util::{AtomKind, Character, IllFormed, kind_number};
 
 fn put_answer(out: &mut Block, at: usize, yes: bool) -> usize {
     if yes {
@@ -21,8 +21,8 @@ fn put_answer(out: &mut Block, at: usize, yes: bool) -> usize {
 }
 
 // 1, 2 or 3, and 0 for no atom.
-fn put_kind(out: &mut Block, at: usize, kind: AtomKind) -> usize {
-    lines::put_decimal(out, at, kind.number() as u64)
+fn put_kind(out: &mut Block, at: usize, kind: Option<AtomKind>) -> usize {
+    lines::put_decimal(out, at, kind_number(kind) as u64)
 }
 
 fn put_length(out: &mut Block, at: usize, len: usize) -> usize {
@@ -30,16 +30,16 @@ fn put_length(out: &mut Block, at: usize, len: usize) -> usize {
     lines::put_decimal(out, next, len as u64)
 }
 
-fn put_character(out: &mut Block, at: usize, found: Character) -> usize {
+fn put_character(out: &mut Block, at: usize, found: Result<Character, IllFormed>) -> usize {
     let next = lines::put_byte(out, at, b' ');
     match found {
-        Character::Well { code, len } => {
-            let next = lines::put_decimal(out, next, code as u64);
-            put_length(out, next, len)
+        Ok(found) => {
+            let next = lines::put_decimal(out, next, found.code as u64);
+            put_length(out, next, found.len)
         }
-        Character::Ill { len } => {
+        Err(broken) => {
             let next = lines::put_byte(out, next, b'-');
-            put_length(out, next, len)
+            put_length(out, next, broken.len)
         }
     }
 }

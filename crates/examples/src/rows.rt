@@ -1,7 +1,7 @@
 // Rows of the table of refusals, and lists in each other.
 use crate::line::{put_refused, put_value};
 use lines::Block;
-use sise_parser::{Answer, Next, Phase, Reader};
+use sise_parser::{ParseError, ParsedItem, Phase, Reader};
 use sise_serializer::{Put, Serializer};
 use sise_tree::{Indexed, ParsedTree, index_path, parse_tree};
 use sise_tree_writer::{PutTree, commit_text, measure_text};
@@ -34,10 +34,10 @@ fn put_wrote(out: &mut Block, at: usize, name: &[u8], answer: PutTree) -> usize 
     }
 }
 
-fn put_next(out: &mut Block, at: usize, name: &[u8], answer: Answer) -> usize {
+fn put_next(out: &mut Block, at: usize, name: &[u8], answer: Result<ParsedItem, ParseError>) -> usize {
     match answer {
-        Answer::Item(_) => put_value(out, at, name, 0),
-        Answer::Refused(error) => put_refused(out, at, name, error.number(), error.place()),
+        Ok(_) => put_value(out, at, name, 0),
+        Err(error) => put_refused(out, at, name, error.number(), error.place()),
     }
 }
 

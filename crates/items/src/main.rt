@@ -8,7 +8,7 @@ ghost use Rattle.lines.specs.Put.{output, put};
 ghost use Rattle.items.specs.Last.{refused_line, last_line};
 
 use lines::{Block, put_item, put_number};
-use sise_parser::{Answer, Finished, ParseError, Phase, Reader};
+use sise_parser::{ParseError, Phase, Reader};
 
 fn put_refused(out: &mut Block, at: usize, error: ParseError) -> usize
     ensures { output result out.new ≡ put (output at out.old) (refused_line error) }
@@ -19,12 +19,12 @@ fn put_refused(out: &mut Block, at: usize, error: ParseError) -> usize
     lines::put_byte(out, at, b'\n')
 }
 
-fn put_finished(out: &mut Block, at: usize, finished: Finished) -> usize
+fn put_finished(out: &mut Block, at: usize, finished: Result<(), ParseError>) -> usize
     ensures { output result out.new ≡ put (output at out.old) (last_line finished) }
 {
     match finished {
-        Finished::Done => lines::put_bytes(out, at, b"ok\n"),
-        Finished::Refused(error) => put_refused(out, at, error),
+        Ok(()) => lines::put_bytes(out, at, b"ok\n"),
+        Err(error) => put_refused(out, at, error),
     }
 }
 
@@ -45,11 +45,11 @@ fn print_items(text: &[u8]) {
         reader = next.reader;
         let answer = next.answer;
         match answer {
-            Answer::Item(item) => {
+            Ok(item) => {
                 at = put_item(&mut out, at, item);
                 at = lines::put_byte(&mut out, at, b'\n');
             }
-            Answer::Refused(error) => {
+            Err(error) => {
                 at = put_refused(&mut out, at, error);
                 break;
             }

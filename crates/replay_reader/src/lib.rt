@@ -8,7 +8,7 @@ ghost use Rattle.replay_reader.specs.Text.{phase_number, reader_text};
 
 use lines::{Block, put_item, put_letter, put_number};
 use script::{Ran, TextCase, read_text_case};
-use sise_parser::{Answer, Finished, ParseError, ParsedItem, Phase, Reader, atom_bytes};
+use sise_parser::{ParseError, ParsedItem, Phase, Reader, atom_bytes};
 
 fn put_error(out: &mut Block, at: usize, error: ParseError) -> usize {
     let at = put_letter(out, at, b'!', error.number() as usize);
@@ -16,10 +16,10 @@ fn put_error(out: &mut Block, at: usize, error: ParseError) -> usize {
     put_number(out, at, error.code() as usize)
 }
 
-fn put_answer(out: &mut Block, at: usize, answer: Answer) -> usize {
+fn put_answer(out: &mut Block, at: usize, answer: Result<ParsedItem, ParseError>) -> usize {
     match answer {
-        Answer::Item(item) => put_item(out, at, item),
-        Answer::Refused(error) => put_error(out, at, error),
+        Ok(item) => put_item(out, at, item),
+        Err(error) => put_error(out, at, error),
     }
 }
 
@@ -44,8 +44,8 @@ pub fn put_reader(out: &mut Block, at: usize, reader: Reader) -> usize
     put_number(out, at, reader.lists)
 }
 
-fn put_atom_of(out: &mut Block, at: usize, text: &[u8], answer: Answer) -> usize {
-    let Answer::Item(item) = answer else {
+fn put_atom_of(out: &mut Block, at: usize, text: &[u8], answer: Result<ParsedItem, ParseError>) -> usize {
+    let Ok(item) = answer else {
         return at;
     };
     let ParsedItem::Atom { pos, len } = item else {
@@ -56,17 +56,17 @@ fn put_atom_of(out: &mut Block, at: usize, text: &[u8], answer: Answer) -> usize
 }
 
 // The line of a next_item call that left the record `reader`.
-fn put_call(out: &mut Block, at: usize, text: &[u8], reader: Reader, answer: Answer) -> usize {
+fn put_call(out: &mut Block, at: usize, text: &[u8], reader: Reader, answer: Result<ParsedItem, ParseError>) -> usize {
     let at = put_answer(out, at, answer);
     let at = put_reader(out, at, reader);
     let at = put_atom_of(out, at, text, answer);
     lines::put_byte(out, at, b'\n')
 }
 
-fn put_finished(out: &mut Block, at: usize, finished: Finished) -> usize {
+fn put_finished(out: &mut Block, at: usize, finished: Result<(), ParseError>) -> usize {
     match finished {
-        Finished::Done => lines::put_bytes(out, at, b"ok\n"),
-        Finished::Refused(error) => {
+        Ok(()) => lines::put_bytes(out, at, b"ok\n"),
+        Err(error) => {
             let at = put_error(out, at, error);
             lines::put_byte(out, at, b'\n')
         }

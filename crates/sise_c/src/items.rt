@@ -7,14 +7,14 @@ ghost use Rattle.sise_c.specs.Items.{ending_by, items_of, ending_of, item_words,
 ghost use Rattle.sise_c.specs.Passes.{CanCount, CountsOn, CanFill, FillsOn};
 
 use sise_parser::{
-    Answer, Finished, ParseError, ParsedItem, Reader, atom_run, is_quote_at, skip_blanks,
+    ParseError, ParsedItem, Reader, atom_run, is_quote_at, skip_blanks,
 };
 
 // How many items there are up to the first refusal, and whether the text ends with the last.
 #[derive(Clone, Copy)]
 pub(crate) struct Counted {
     pub items: usize,
-    pub ending: Finished,
+    pub ending: Result<(), ParseError>,
 }
 
 // Where a pass over the text stands: the reader's position, how many lists are open, and how many items there were.
@@ -26,13 +26,13 @@ struct Place {
 }
 
 // What the refusal that follows the items says: where it is 9 they are all read, and finish looks at the rest of the text.
-fn ending_by(text: &[u8], reader: Reader, error: ParseError) -> Finished
+fn ending_by(text: &[u8], reader: Reader, error: ParseError) -> Result<(), ParseError>
     ensures { finished_as result ≡ ending_by text.now reader (refusal_of error) }
 {
     if error.number() == 9 {
         return reader.finish(text);
     }
-    Finished::Refused(error)
+    Err(error)
 }
 
 // Counts on while the tokens are plain: a `(`, a `)` that does not close the outermost list, or an atom without strings. Any other is left to next_item.
@@ -111,11 +111,11 @@ pub(crate) fn count_items(text: &[u8]) -> Counted
         let next = from.next_item(text);
         let answer = next.answer;
         match answer {
-            Answer::Item(_) => {
+            Ok(_) => {
                 items += 1;
                 reader = next.reader;
             }
-            Answer::Refused(error) => {
+            Err(error) => {
                 let ending = ending_by(text, from, error);
                 return Counted { items, ending };
             }
@@ -226,7 +226,7 @@ pub(crate) fn fill_items(text: &[u8], words: &mut [u64])
         };
         let next = from.next_item(text);
         let answer = next.answer;
-        let Answer::Item(item) = answer else {
+        let Ok(item) = answer else {
             return;
         };
         put_item(words, items, item);

@@ -25,27 +25,24 @@ use report::{
     CallCount, Size, Values, report_found, report_indexed, report_measured, report_parsed,
     report_put, report_refused, size_given,
 };
-use sise_parser::Finished;
 use sise_serializer::write_calls;
 use sise_tree::{find_path, index_path, parse_text};
 use sise_tree_writer::{commit_text, measure_text, write_text};
-use sise_util::check_atom;
+use sise_util::{check_atom, kind_number};
 pub use writing::{sise_begin_list, sise_end_list, sise_finish_writing, sise_put_atom};
 
 // Whether the bytes are an atom: 0 or 17.
 pub fn sise_check_atom(atom: &[u8]) -> u32
     ensures { result ≡ checked (is_atom atom.now) }
 {
-    let kind = check_atom(atom);
-    if kind.is_atom() { 0 } else { 17 }
+    if check_atom(atom).is_some() { 0 } else { 17 }
 }
 
 // Which atom the bytes are: 1 plain, with no `"` in it, 2 one whole string, 3 any other atom, and 0 no atom. It is the first word of such an atom in a table.
 pub fn sise_atom_kind(atom: &[u8]) -> u32
     ensures { result ≡ kind_number (kind_of atom.now) }
 {
-    let kind = check_atom(atom);
-    kind.number()
+    kind_number(check_atom(atom))
 }
 
 // Reads a whole text, which is one node, into the table. The first value is how many nodes it has.
@@ -161,7 +158,7 @@ pub fn sise_read_items(text: &[u8], words: &mut [u64], values: &mut Values) -> u
 {
     let counted = count_items(text);
     let ending = counted.ending;
-    if let Finished::Refused(error) = ending {
+    if let Err(error) = ending {
         return report_refused(error, values);
     }
     if counted.items > words.len() / 4 {

@@ -10,7 +10,7 @@ ghost use Rattle.sise_c.specs.Reports.{Reports};
 ghost use Rattle.sise_c.specs.Singly.{ReportsNext, next_of, finish_of};
 
 use crate::report::{Values, report_refused};
-use sise_parser::{Answer, Finished, Next, ParsedItem, Phase, Reader};
+use sise_parser::{ParseError, ParsedItem, Phase, Reader};
 
 // A reader's record in words.
 pub type ReaderWords = [u64; 3];
@@ -71,15 +71,15 @@ fn put_item(item: ParsedItem, words: &mut ItemWords)
     }
 }
 
-fn report_answer(answer: Answer, item: &mut ItemWords) -> u32
+fn report_answer(answer: Result<ParsedItem, ParseError>, item: &mut ItemWords) -> u32
     ensures { ReportsNext (answer_as answer) result item.new }
 {
     match answer {
-        Answer::Item(found) => {
+        Ok(found) => {
             put_item(found, item);
             0
         }
-        Answer::Refused(error) => {
+        Err(error) => {
             let place = error.place();
             let code = error.code();
             *item = [0, place as u64, code as u64];
@@ -126,10 +126,10 @@ pub fn sise_finish_reading(text: &[u8], record: &ReaderWords, values: &mut Value
         return 11;
     };
     match reader.finish(text) {
-        Finished::Done => {
+        Ok(()) => {
             *values = [0, 0];
             0
         }
-        Finished::Refused(error) => report_refused(error, values),
+        Err(error) => report_refused(error, values),
     }
 }

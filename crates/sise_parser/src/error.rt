@@ -1,7 +1,7 @@
 // Why a call of the reader is refused. `pos` is a place, a byte offset in the text, and `chr` a code point. specs/Refusals.antt has document 01's
 // number of each.
 ghost use Rattle.std.specs.Prelude.{◌≡◌};
-ghost use Rattle.sise_parser.specs.Refusals.{refusal_of};
+ghost use Rattle.sise_parser.specs.Refusals.{Refusal, refusal_of};
 
 #[derive(Clone, Copy, Debug, PartialEq, Eq)]
 pub enum ParseError {
@@ -29,11 +29,24 @@ pub enum ParseError {
     UnsoundRecord,
 }
 
-impl ParseError {
-    // Document 01's number.
-    pub fn number(self) -> u32
-        ensures { result ≡ (refusal_of self).number }
-    {
+// A refusal in numbers: document 01's number of it, and its place and code point, 0 where there is none.
+pub trait Refusal: Copy {
+    ghost meaning: { Self → Refusal };
+
+    fn number(self) -> u32
+        ensures { result ≡ (meaning self).number };
+
+    fn place(self) -> usize
+        ensures { result ≡ (meaning self).place };
+
+    fn code(self) -> u32
+        ensures { result ≡ (meaning self).code };
+}
+
+impl Refusal for ParseError {
+    ghost meaning = { refusal_of };
+
+    fn number(self) -> u32 {
         match self {
             ParseError::IllegalChr { .. } => 1,
             ParseError::IllegalChrInString { .. } => 2,
@@ -49,10 +62,7 @@ impl ParseError {
         }
     }
 
-    // The place, 0 where there is none.
-    pub fn place(self) -> usize
-        ensures { result ≡ (refusal_of self).place }
-    {
+    fn place(self) -> usize {
         match self {
             ParseError::IllegalChr { pos, .. }
             | ParseError::IllegalChrInString { pos, .. }
@@ -66,10 +76,7 @@ impl ParseError {
         }
     }
 
-    // The code point, 0 where there is none.
-    pub fn code(self) -> u32
-        ensures { result ≡ (refusal_of self).code }
-    {
+    fn code(self) -> u32 {
         match self {
             ParseError::IllegalChr { chr, .. }
             | ParseError::IllegalChrInString { chr, .. }

@@ -6,7 +6,7 @@ mod lexer;
 mod parser;
 mod reader;
 
-pub use error::ParseError;
+pub use error::{ParseError, Refusal};
 pub use lexer::{atom_run, is_quote_at, skip_blanks};
 pub use parser::{Parsed, Parser};
 pub use reader::{Next, ParsedItem, Phase, Reader, UnknownPhase, atom_bytes, item_ahead};

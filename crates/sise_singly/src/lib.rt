@@ -8,7 +8,7 @@ ghost use Rattle.sise_serializer.specs.Calls.{Does};
 ghost use Rattle.sise_serializer.specs.Words.{call_at, WritesCalls};
 ghost use Rattle.sise_singly.specs.Count.{count_items};
 
-use sise_parser::{Answer, Reader, atom_bytes};
+use sise_parser::{Reader, atom_bytes};
 use sise_serializer::{Serializer, Wrote, has_call, put_word};
 
 // How many items a reader of the text gives before its first refusal; a whole text is refused with 9 after its last item.
@@ -22,7 +22,7 @@ pub extern "C" fn sise_count_items(text: &[u8]) -> u64
     loop {
         let next = reader.next_item(text);
         let answer = next.answer;
-        let Answer::Item(_) = answer else {
+        let Ok(_) = answer else {
             return count;
         };
         count += 1;

@@ -8,9 +8,9 @@ ghost use Rattle.sise_tree.specs.Filling.{settled_as, DoesCount, CountsOn, mark,
 
 use crate::tree::{LONGEST, wide};
 use sise_parser::{
-    Answer, ParseError, ParsedItem, Reader, atom_run, is_quote_at, item_ahead, skip_blanks,
+    ParseError, ParsedItem, Reader, atom_run, is_quote_at, item_ahead, skip_blanks,
 };
-use sise_util::check_atom_prefix;
+use sise_util::{check_atom_prefix, kind_number};
 
 // What parse_tree answers: the number of nodes, or a refusal.
 #[derive(Clone, Copy)]
@@ -86,12 +86,12 @@ fn renewed(r: Reader) -> Reader
 
 // What a reading comes to whose last call answered so: a node, of so many nodes, or the refusal. The loop leaves this to it, and looks at the kind of an
 // answer alone.
-fn settled(answer: Answer, nodes: usize) -> ParsedTree
+fn settled(answer: Result<ParsedItem, ParseError>, nodes: usize) -> ParsedTree
     ensures { parsed_as result ≡ settled_as (answer_as answer) nodes }
 {
     match answer {
-        Answer::Item(_) => ParsedTree::Nodes(nodes),
-        Answer::Refused(error) => ParsedTree::Refused(error),
+        Ok(_) => ParsedTree::Nodes(nodes),
+        Err(error) => ParsedTree::Refused(error),
     }
 }
 
@@ -170,7 +170,7 @@ pub(crate) fn count_nodes(text: &[u8], reader: Reader) -> TreeRead
         let answer = next.answer;
         let after = next.reader;
         r = renewed(after);
-        let Answer::Item(item) = answer else {
+        let Ok(item) = answer else {
             let last = next.answer;
             break settled(last, nodes);
         };
@@ -248,8 +248,7 @@ fn kind_at(text: &[u8], pos: usize, end: usize) -> u32
     requires { (pos ≤ end) × (end ≤ length text.now) }
     ensures { result ≡ kind_at text.now pos (end - pos) }
 {
-    let kind = check_atom_prefix(&text[pos..], end - pos);
-    kind.number()
+    kind_number(check_atom_prefix(&text[pos..], end - pos))
 }
 
 // An atom from `pos` to `end` is written with its kind, and counted as a child.
@@ -370,7 +369,7 @@ pub(crate) fn fill_nodes(text: &[u8], reader: Reader, table: &mut [u32])
         let answer = next.answer;
         let after = next.reader;
         r = renewed(after);
-        let Answer::Item(item) = answer else {
+        let Ok(item) = answer else {
             return;
         };
         mark = put_item(text, table, mark, item, r.position);

@@ -7,7 +7,7 @@ ghost use Rattle.sise_tree.specs.Held.{held_if, held_as, is_tree};
 ghost use Rattle.sise_tree.specs.IndexPath.{index_path};
 ghost use Rattle.sise_tree.specs.Answers.{indexed_as, number_of};
 
-use sise_util::{AtomKind, check_atom_prefix};
+use sise_util::{AtomKind, check_atom_prefix, kind_number};
 
 // The longest text of a tree call.
 pub const LONGEST: usize = 16777216;
@@ -136,10 +136,10 @@ fn fills(table: &[u32], children: usize, end: usize) -> bool
 }
 
 // Whether an atom's first word may be `kind`, where its bytes are `atom`: the number of that kind, and each of the three where they are no atom.
-fn kind_holds(kind: u32, atom: AtomKind) -> Held
+fn kind_holds(kind: u32, atom: Option<AtomKind>) -> Held
     ensures { result ≡ held_if (fits_kind atom kind) (is_some atom) }
 {
-    let number = atom.number();
+    let number = kind_number(atom);
     if number != 0 {
         if kind == number {
             return Held::Tree;

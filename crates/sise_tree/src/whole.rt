@@ -3,7 +3,7 @@ ghost use Rattle.sise_tree.specs.ParseText.{parse_text, DoesParseText};
 
 use crate::parse::{ParsedTree, count_nodes, fill_nodes};
 use crate::tree::LONGEST;
-use sise_parser::{Finished, Reader};
+use sise_parser::Reader;
 
 // Reads a text that is one node and nothing behind it into the table's first words. Unlike parse_tree it looks at what follows the node, and before it
 // asks whether the table has room.
@@ -20,7 +20,7 @@ pub fn parse_text(text: &[u8], table: &mut [u32]) -> ParsedTree
     };
     let after = counted.reader;
     let ending = after.finish(text);
-    if let Finished::Refused(error) = ending {
+    if let Err(error) = ending {
         return ParsedTree::Refused(error);
     }
     if nodes > table.len() / 4 {

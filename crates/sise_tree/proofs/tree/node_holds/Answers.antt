@@ -1,5 +1,5 @@
 -- At each return the tests that led there are those of the definition, on the words that were read.
-use Rattle.std.specs.Prelude.{is_some}
+use Rattle.std.specs.Prelude.{is_some, Option}
 use Prim.Native.Nat.{ℕ, ◌-◌, ◌/◌, ◌<◌}
 use native.Mathlib.Omega.{arith}
 use mathlib.Core.Path.{sym, ap, ◌∙◌}
@@ -36,4 +36,4 @@ pub slice_bounds-check_atom_prefix-start : goal.slice_bounds-check_atom_prefix-s
 slice_bounds-check_atom_prefix-start c = omega (arith, c.if-text-first.false)
 
 pub returns : goal.returns
-returns c = let a = c.args in let within : 0 < length a.table.now / 4 = omega (arith, c.if-table-lt4.false) in let x = c.word-first.result in let rest = take_all (length a.text.now - x) (drop x a.text.now) (omega (arith, length-drop x a.text.now)) in c.kind_holds.ensures ∙ ap (λ (k : AtomKind). held_if (fits_kind k (kind a.table.now 0)) (is_some k)) (c.check_atom_prefix.ensures ∙ ap (λ (l : List ℕ). kind_prefix l c.word-second.result) rest) ∙ held_atom a.text.now a.table.now within c.if-table-eq0.false c.word-first.ensures.same c.word-second.ensures.same c.word-span.ensures.same c.if-span-ne1.false c.if-text-first.false
+returns c = let a = c.args in let within : 0 < length a.table.now / 4 = omega (arith, c.if-table-lt4.false) in let x = c.word-first.result in let rest = take_all (length a.text.now - x) (drop x a.text.now) (omega (arith, length-drop x a.text.now)) in c.kind_holds.ensures ∙ ap (λ (k : Option AtomKind). held_if (fits_kind k (kind a.table.now 0)) (is_some k)) (c.check_atom_prefix.ensures ∙ ap (λ (l : List ℕ). kind_prefix l c.word-second.result) rest) ∙ held_atom a.text.now a.table.now within c.if-table-eq0.false c.word-first.ensures.same c.word-second.ensures.same c.word-span.ensures.same c.if-span-ne1.false c.if-text-first.false

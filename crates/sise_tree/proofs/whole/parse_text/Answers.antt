@@ -11,8 +11,8 @@ use Rattle.sise_tree.specs.contracts.parse.ParsedTree as parsing
 use Rattle.sise_parser.specs.Reader.{fresh_reader, finish_reading}
 use Rattle.sise_parser.specs.Meaning.{finished_as}
 use Rattle.sise_parser.specs.declared.error.ParseError.{ParseError}
-use Rattle.sise_parser.specs.declared.reader.Finished.{Finished}
-use Rattle.sise_parser.specs.declared.reader.Finished.TheVariants as finished
+use Rattle.std.specs.Prelude.{Result, Ok, Err}
+use Rattle.sise_parser.specs.declared.error.ParseError.{ParseError}
 use Rattle.sise_parser.specs.declared.reader.Reader.{Reader}
 use Rattle.sise_tree.specs.Tree.{Node, size}
 use Rattle.sise_tree.specs.Answers.{answered, refused_with}
@@ -58,9 +58,9 @@ module _ (text words : List ℕ) where
       fillable : {k : ℕ} → x.answer ≡ Nodes k → k ≤ length words / 4 → {p : Reader} → p ≡ fresh_reader → CanFill text p words
       fillable a u v = subst (λ (r : Reader). CanFill text r words) (sym v) (parse_fillable text fresh_reader words short counts a u)
 
-      module _ {k : ℕ} (a : x.answer ≡ Nodes k) {f : Finished} (ends : finished_as f ≡ finish_reading text x.reader) where
+      module _ {k : ℕ} (a : x.answer ≡ Nodes k) {f : Result (Unit {0}) ParseError} (ends : finished_as f ≡ finish_reading text x.reader) where
         -- a node was counted, and finish answered so
-        by : {g : Finished} {n : Node} → f ≡ g → read_node text fresh_reader ≡ got n x.reader → parse_text text words ≡ ended_with words n (finished_as g)
+        by : {g : Result (Unit {0}) ParseError} {n : Node} → f ≡ g → read_node text fresh_reader ≡ got n x.reader → parse_text text words ≡ ended_with words n (finished_as g)
         by {n = n} t e = read e ∙ ap (ended_with words n) (sym ends ∙ ap finished_as t)
 
         more : {e : ParseError} → f ≡ finished.Refused e → DoesParseText (parse_text text words) (Refused e) words
