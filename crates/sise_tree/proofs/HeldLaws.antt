@@ -5,7 +5,7 @@ use Prim.Native.Nat.{ℕ, ◌+◌, ◌/◌, ◌≤◌, ◌<◌}
 use native.Mathlib.Omega.{arith}
 use mathlib.Core.Path.{◌≡◌, refl, sym, ap, ◌∙◌}
 use mathlib.Core.Bool.{Bool, true, false, ◌&&◌, cond, false≢true}
-use mathlib.Core.Option.{Option, none, some}
+use mathlib.Core.Option.{Option as Maybe, none, some}
 use mathlib.Core.Logic.{⊎_elim}
 use mathlib.Core.List.{List, [], ◌∷◌}
 use types.Run.{OneOf}
@@ -20,7 +20,7 @@ use Rattle.sise_util.proofs.Ranges.{split, and_first, and_second}
 use Rattle.sise_util.proofs.KindLaws.{kind_prefix_lem}
 use Rattle.sise_tree.specs.Tree.{Node, atoms_hold, kind, first, second, span, fits_kind, sits, fills_in, good, HoldsTree}
 use Rattle.sise_tree.specs.Parts.{good_in, atom_holds_at}
-use Rattle.sise_tree.specs.Decision.{decide, is_some}
+use Rattle.sise_tree.specs.Decision.{decide, is_some as decided}
 use Rattle.sise_tree.specs.Held.{held_if, held_as, is_tree}
 use Rattle.sise_tree.specs.declared.tree.Held.{Held}
 use Rattle.sise_tree.specs.declared.tree.Held.TheVariants.{Tree, NoAtom, NotATree}
@@ -134,10 +134,10 @@ module _ {text words : List ℕ} {i : ℕ} {all : Bool} (p : Passed text words i
 
 module _ {text words : List ℕ} where
   pub held_none : (HoldsTree text words → ⊥) → NotATree ≡ held_as text (decide text words)
-  unfolding is_some
+  unfolding decided
   held_none f = of (decide text words) (local.unsound_refuses text words f)
     where
-      of : (d : Option Node) → is_some d ≡ false → NotATree ≡ held_as text d
+      of : (d : Maybe Node) → decided d ≡ false → NotATree ≡ held_as text d
       of none e = refl
       of (some n) e = absurd (false≢true (sym e))
 
@@ -154,13 +154,13 @@ module _ {text words : List ℕ} where
         rw (d, tree_fails text words d k (omega arith) z)
 
 -- a tree or none, for a path
-pub some_held : (text : List ℕ) (d : Option Node) {h : Held} → h ≡ held_as text d → (h ≡ NotATree → ⊥) → is_some d ≡ true
-unfolding is_some
+pub some_held : (text : List ℕ) (d : Maybe Node) {h : Held} → h ≡ held_as text d → (h ≡ NotATree → ⊥) → decided d ≡ true
+unfolding decided
 some_held text none e f = absurd (f e)
 some_held text (some n) e f = refl
 
-pub none_held : (text : List ℕ) (d : Option Node) {h : Held} → h ≡ held_as text d → h ≡ NotATree → is_some d ≡ false
-unfolding is_some
+pub none_held : (text : List ℕ) (d : Maybe Node) {h : Held} → h ≡ held_as text d → h ≡ NotATree → decided d ≡ false
+unfolding decided
 none_held text none e z = refl
 none_held text (some n) {h} e z = of (atoms_hold text n) e
   where
@@ -172,7 +172,7 @@ pub not_none : (h : Held) → OneOf (0 ∷ 1 ∷ []) (tag_of held.the_type h) �
 not_none h k e = ⊎_elim (λ (z : 2 ≡ 0). omega arith) (λ (z : 2 ≡ 1). omega arith) (rw e at k)
 
 -- what the answer says of the tree
-pub tree_held : (text : List ℕ) (d : Option Node) {h : Held} → h ≡ held_as text d → h ≡ Tree → (n : Node) × (d ≡ some n) × (atoms_hold text n ≡ true)
+pub tree_held : (text : List ℕ) (d : Maybe Node) {h : Held} → h ≡ held_as text d → h ≡ Tree → (n : Node) × (d ≡ some n) × (atoms_hold text n ≡ true)
 tree_held text none {h} e z = let y : NotATree ≡ Tree = sym e ∙ z in let x : ◌≡◌ {A = ℕ} 0 1 = cc in absurd (omega arith)
 tree_held text (some n) {h} e z = (n, refl, of (atoms_hold text n) e)
   where
@@ -180,7 +180,7 @@ tree_held text (some n) {h} e z = (n, refl, of (atoms_hold text n) e)
     of true q = refl
     of false q = let y : NoAtom ≡ Tree = sym q ∙ z in let x : ◌≡◌ {A = ℕ} 0 1 = cc in absurd (omega arith)
 
-pub flawed_held : (text : List ℕ) (d : Option Node) {h : Held} → h ≡ held_as text d → h ≡ NoAtom → (n : Node) × (d ≡ some n) × (atoms_hold text n ≡ false)
+pub flawed_held : (text : List ℕ) (d : Maybe Node) {h : Held} → h ≡ held_as text d → h ≡ NoAtom → (n : Node) × (d ≡ some n) × (atoms_hold text n ≡ false)
 flawed_held text none {h} e z = let y : NotATree ≡ NoAtom = sym e ∙ z in let x : ◌≡◌ {A = ℕ} 0 1 = cc in absurd (omega arith)
 flawed_held text (some n) {h} e z = (n, refl, of (atoms_hold text n) e)
   where

@@ -3,7 +3,7 @@
 -- Assumes nothing.
 use Prim.Native.Nat.{ℕ, zero, suc, ◌+◌, ◌≤◌, ◌<◌}
 use native.Mathlib.Omega.{arith}
-use mathlib.Core.Path.{◌≡◌, refl, sym, ap, ap₂, ◌∙◌, subst}
+use mathlib.Core.Path.{◌≡◌, refl, sym, ap, ◌∙◌, subst}
 use mathlib.Core.Bool.{Bool, true, false, false≢true}
 use mathlib.Core.List.{List}
 use lib.Dec.{eqb}
@@ -180,8 +180,8 @@ unfolding read_from read_answer
 read_refused text r f e = ap (λ (x : Next). read_answer text (read_from (length text) text x.reader) x.reader f x.answer) e
 
 -- what the code's call says, where its answer is known
-pub called : (x : ReaderNext) {a : Result ParsedItem ParseError} {q : Reader} {y : Next} → next_as x ≡ y → q ≡ x.reader → x.answer ≡ a → y ≡ next q (answer_as a)
-called x e z d = sym e ∙ ap₂ (λ (q : Reader) (b : Result ParsedItem ParseError). next q (answer_as b)) (sym z) d
+pub called : (x : ReaderNext) {a : Result ParsedItem ParseError} {y : Next} → next_as x ≡ y → x.answer ≡ a → y ≡ next x.reader (answer_as a)
+called x e d = sym e ∙ ap (λ (b : Result ParsedItem ParseError). next x.reader (answer_as b)) d
 
 -- ---- a reading that comes to a node
 

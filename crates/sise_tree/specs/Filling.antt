@@ -25,11 +25,6 @@ abbrev pub reader_of : ReadNode → Reader
 reader_of (got n q) = q
 reader_of (stopped e q) = q
 
--- what a reading of so many nodes comes to by its last call's answer
-abbrev pub settled_as : reader.Answer → ℕ → Answer
-settled_as (reader.Answer.item i) n = answered n
-settled_as (reader.Answer.refused e) n = refused e
-
 pub record DoesCount (d : ReadNode) (r : TreeRead) : Type 0 where
   pub reader : r.reader ≡ reader_of d
   pub answer : parsed_as r.answer ≡ counted d

@@ -1,21 +1,20 @@
 // A node of a text, read into a lent table.
 ghost use Rattle.std.specs.Prelude.{◌≡◌, ◌≤◌, ◌<◌, ◌+◌, ◌-◌, ◌/◌, length};
-ghost use Rattle.sise_parser.specs.Meaning.{answer_as};
 ghost use Rattle.sise_tree.specs.Tree.{kind_at};
-ghost use Rattle.sise_tree.specs.Answers.{parsed_as, number_of, place_of, code_of};
+ghost use Rattle.sise_tree.specs.Answers.{tree_refusal};
+ghost use Rattle.sise_tree.specs.declared.parse.TreeError.TheVariants.{Refused};
 ghost use Rattle.sise_tree.specs.ParseTree.{read_node, parse_tree, DoesParse};
-ghost use Rattle.sise_tree.specs.Filling.{settled_as, DoesCount, CountsOn, mark, put_at, CanAttach, Attaches, CanClose, Closes, CanPut, Puts, CanTurn, Turns, CanStart, Starts, CanFill, DoesFill, CanFillOn, FillsOn};
+ghost use Rattle.sise_tree.specs.Filling.{DoesCount, CountsOn, mark, put_at, CanAttach, Attaches, CanClose, Closes, CanPut, Puts, CanTurn, Turns, CanStart, Starts, CanFill, DoesFill, CanFillOn, FillsOn};
 
 use crate::tree::{LONGEST, wide};
 use sise_parser::{
-    ParseError, ParsedItem, Reader, atom_run, is_quote_at, item_ahead, skip_blanks,
+    ParseError, ParsedItem, Reader, Refusal, atom_run, is_quote_at, item_ahead, skip_blanks,
 };
 use sise_util::{check_atom_prefix, kind_number};
 
-// What parse_tree answers: the number of nodes, or a refusal.
-#[derive(Clone, Copy)]
-pub enum ParsedTree {
-    Nodes(usize),
+// Why no tree is read.
+#[derive(Clone, Copy, Debug, PartialEq, Eq)]
+pub enum TreeError {
     // A refusal of the reader.
     Refused(ParseError),
     // A list closes where a node is due.
@@ -24,75 +23,47 @@ pub enum ParsedTree {
     TableFull,
 }
 
-impl ParsedTree {
-    // Document 01's number, 0 for a node.
-    pub fn number(self) -> u32
-        ensures { result ≡ number_of (parsed_as self) }
-    {
+impl From<ParseError> for TreeError {
+    ghost from_gives = { λ error e. e ≡ Refused error };
+
+    fn from(error: ParseError) -> TreeError {
+        TreeError::Refused(error)
+    }
+}
+
+impl Refusal for TreeError {
+    ghost meaning = { tree_refusal };
+
+    fn number(self) -> u32 {
         match self {
-            ParsedTree::Nodes(_) => 0,
-            ParsedTree::Refused(error) => error.number(),
-            ParsedTree::UnexpectedListEnd { .. } => 12,
-            ParsedTree::TextTooLong => 13,
-            ParsedTree::TableFull => 14,
+            TreeError::Refused(error) => error.number(),
+            TreeError::UnexpectedListEnd { .. } => 12,
+            TreeError::TextTooLong => 13,
+            TreeError::TableFull => 14,
         }
     }
 
-    // The place, 0 where there is none.
-    pub fn place(self) -> usize
-        ensures { result ≡ place_of (parsed_as self) }
-    {
+    fn place(self) -> usize {
         match self {
-            ParsedTree::Nodes(_) => 0,
-            ParsedTree::Refused(error) => error.place(),
-            ParsedTree::UnexpectedListEnd { pos } => pos,
-            ParsedTree::TextTooLong => 0,
-            ParsedTree::TableFull => 0,
+            TreeError::Refused(error) => error.place(),
+            TreeError::UnexpectedListEnd { pos } => pos,
+            TreeError::TextTooLong | TreeError::TableFull => 0,
         }
     }
 
-    // The code point, 0 where there is none.
-    pub fn code(self) -> u32
-        ensures { result ≡ code_of (parsed_as self) }
-    {
+    fn code(self) -> u32 {
         match self {
-            ParsedTree::Nodes(_) => 0,
-            ParsedTree::Refused(error) => error.code(),
-            ParsedTree::UnexpectedListEnd { .. } => 0,
-            ParsedTree::TextTooLong => 0,
-            ParsedTree::TableFull => 0,
+            TreeError::Refused(error) => error.code(),
+            _ => 0,
         }
     }
 }
 
-// What parse_tree hands back.
-#[derive(Clone, Copy)]
+// What parse_tree hands back: the record behind the node, and the number of nodes.
+#[derive(Clone, Copy, Debug, PartialEq, Eq)]
 pub struct TreeRead {
     pub reader: Reader,
-    pub answer: ParsedTree,
-}
-
-// The same record, copied field by field as item_ahead wrote it, which is faster than a copy of the whole.
-fn renewed(r: Reader) -> Reader
-    ensures { result ≡ r }
-{
-    let phase = r.phase;
-    Reader {
-        position: r.position,
-        phase,
-        lists: r.lists,
-    }
-}
-
-// What a reading comes to whose last call answered so: a node, of so many nodes, or the refusal. The loop leaves this to it, and looks at the kind of an
-// answer alone.
-fn settled(answer: Result<ParsedItem, ParseError>, nodes: usize) -> ParsedTree
-    ensures { parsed_as result ≡ settled_as (answer_as answer) nodes }
-{
-    match answer {
-        Ok(_) => ParsedTree::Nodes(nodes),
-        Err(error) => ParsedTree::Refused(error),
-    }
+    pub answer: Result<usize, TreeError>,
 }
 
 // Where the counting stands: the reader's position, how many of the node's lists are open, and how many nodes there were.
@@ -165,20 +136,17 @@ pub(crate) fn count_nodes(text: &[u8], reader: Reader) -> TreeRead
         );
         depth = run.depth;
         nodes = run.nodes;
-        let phase = r.phase;
-        let next = item_ahead(run.position, phase, reader.lists + depth, text);
-        let answer = next.answer;
-        let after = next.reader;
-        r = renewed(after);
-        let Ok(item) = answer else {
-            let last = next.answer;
-            break settled(last, nodes);
+        let next = item_ahead(run.position, r.phase, reader.lists + depth, text);
+        r = next.reader;
+        let item = match next.answer {
+            Ok(item) => item,
+            Err(error) => break Err(TreeError::Refused(error)),
         };
         match item {
             ParsedItem::Atom { .. } => {
                 nodes += 1;
                 if depth == 0 {
-                    break ParsedTree::Nodes(nodes);
+                    break Ok(nodes);
                 }
             }
             ParsedItem::ListStart { .. } => {
@@ -187,11 +155,11 @@ pub(crate) fn count_nodes(text: &[u8], reader: Reader) -> TreeRead
             }
             ParsedItem::ListEnd { pos } => {
                 if depth == 0 {
-                    break ParsedTree::UnexpectedListEnd { pos };
+                    break Err(TreeError::UnexpectedListEnd { pos });
                 }
                 depth -= 1;
                 if depth == 0 {
-                    break ParsedTree::Nodes(nodes);
+                    break Ok(nodes);
                 }
             }
         }
@@ -364,12 +332,9 @@ pub(crate) fn fill_nodes(text: &[u8], reader: Reader, table: &mut [u32])
     let mut r = reader;
     let mut mark = Mark { next: 0, parent: 0 };
     loop {
-        let phase = r.phase;
-        let next = item_ahead(r.position, phase, r.lists, text);
-        let answer = next.answer;
-        let after = next.reader;
-        r = renewed(after);
-        let Ok(item) = answer else {
+        let next = item_ahead(r.position, r.phase, r.lists, text);
+        r = next.reader;
+        let Ok(item) = next.answer else {
             return;
         };
         mark = put_item(text, table, mark, item, r.position);
@@ -390,10 +355,9 @@ pub(crate) fn fill_nodes(text: &[u8], reader: Reader, table: &mut [u32])
             next: run.next,
             parent: run.parent,
         };
-        let phase = r.phase;
         r = Reader {
             position: run.position,
-            phase,
+            phase: r.phase,
             lists: reader.lists + run.depth,
         };
     }
@@ -406,18 +370,17 @@ pub fn parse_tree(text: &[u8], reader: Reader, table: &mut [u32]) -> TreeRead
     if text.len() > LONGEST {
         return TreeRead {
             reader,
-            answer: ParsedTree::TextTooLong,
+            answer: Err(TreeError::TextTooLong),
         };
     }
     let counted = count_nodes(text, reader);
-    let answer = counted.answer;
-    let ParsedTree::Nodes(nodes) = answer else {
+    let Ok(nodes) = counted.answer else {
         return counted;
     };
     if nodes > table.len() / 4 {
         return TreeRead {
             reader,
-            answer: ParsedTree::TableFull,
+            answer: Err(TreeError::TableFull),
         };
     }
     fill_nodes(text, reader, table);

@@ -3,10 +3,10 @@
 use Prim.Native.Nat.{◌-◌, ◌/◌}
 use lib.ListN.{length}
 use Rattle.sise_tree.proofs.FindLaws.{Going}
-use Rattle.sise_tree.proofs.find.find_path.Given as goal
+use Rattle.sise_tree.proofs.tree.TreeTable.find_path.Given as goal
 
 abbrev pub invariant-loop-at : goal.invariant-loop-at
-invariant-loop-at l = Going l.table l.text l.path l.at l.seen l.k l.left
+invariant-loop-at l = Going l.table l.self.text.now l.path l.at l.seen l.k l.left
 
 abbrev pub decreases-loop-at : goal.decreases-loop-at
 decreases-loop-at l = length l.table / 4 - l.at

@@ -3,13 +3,13 @@
 use native.Mathlib.Omega.{arith}
 use mathlib.Core.Path.{sym, ◌∙◌}
 use Rattle.sise_tree.proofs.FindLaws.{too_long, going_root, going_outside, going_stuck, going_past, going_found, going_atom, going_none, going_child}
-use Rattle.sise_tree.proofs.find.find_path.Goals as goal
+use Rattle.sise_tree.proofs.tree.TreeTable.find_path.Goals as goal
 
-pub returns-then-text-gt-LONGEST : goal.returns-then-text-gt-LONGEST
-returns-then-text-gt-LONGEST c = sym (too_long _ _ _ c.if-text-gt-LONGEST.true)
+pub returns-then-self-gt-LONGEST : goal.returns-then-self-gt-LONGEST
+returns-then-self-gt-LONGEST c = sym (too_long _ _ _ c.if-self-gt-LONGEST.true)
 
 pub loop-at-init : goal.loop-at-init
-loop-at-init c = going_root _ _ _ c.if-text-gt-LONGEST.false
+loop-at-init c = going_root _ _ _ c.if-self-gt-LONGEST.false
 
 pub returns-then-at-nodes : goal.returns-then-at-nodes
 returns-then-at-nodes c = sym (going_outside c.loop-at.invariant c.if-at-nodes.true)
