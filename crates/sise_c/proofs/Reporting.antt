@@ -6,18 +6,11 @@ use mathlib.Core.List.{List, [], ◌∷◌}
 use types.Run.{OneOf}
 use denote.Enum.Declared.{tag_of}
 use Rattle.sise_serializer.proofs.Running.{no_zero}
-use Rattle.sise_tree.specs.Answers.{Answer, answered, parsed_as, indexed_as, number_of, place_of, code_of}
+use Rattle.sise_tree.specs.Answers.{Answer, answered, path_refusal, number_of}
 use Rattle.sise_tree_writer.specs.Answers.{put_as}
-use Rattle.sise_tree.specs.declared.parse.ParsedTree.{ParsedTree}
-use Rattle.sise_tree.specs.declared.parse.ParsedTree.TheVariants as parsed
-use Rattle.sise_tree.specs.contracts.parse.ParsedTree as parsings
-use Rattle.sise_tree.specs.declared.tree.Indexed.{Indexed}
-use Rattle.sise_tree.specs.declared.tree.Indexed.TheVariants as indexed
-use Rattle.sise_tree.specs.contracts.tree.Indexed as indexings
+use Rattle.sise_tree.specs.declared.tree.PathError.{PathError}
+use Rattle.sise_tree.specs.declared.tree.PathError.TheVariants.{TextTooLong, NotATree, NoSuchNode}
 use Rattle.sise_tree.specs.FindPath.{Lookup, found, found_as, found_number, found_values}
-use Rattle.sise_tree.specs.declared.find.Found.{Found}
-use Rattle.sise_tree.specs.declared.find.Found.TheVariants as lookups
-use Rattle.sise_tree.specs.contracts.find.Found as findings
 use Rattle.sise_tree_writer.specs.declared.serialize.PutTree.{PutTree}
 use Rattle.sise_tree_writer.specs.declared.serialize.PutTree.TheVariants as put
 use Rattle.sise_tree_writer.specs.contracts.serialize.PutTree as puts
@@ -37,31 +30,12 @@ reports_by e d t = record { result = d ∙ t.result ∙ ap number_of (sym e); va
 pub reports_answered : {a : Answer} {n : ℕ} → a ≡ answered n → Reports a 0 (n ∷ 0 ∷ [])
 reports_answered e = reports_by e refl (record { result = refl; values = refl })
 
-pub parsed_refusal : (a : ParsedTree) → OneOf (1 ∷ 2 ∷ 3 ∷ 4 ∷ []) (tag_of parsings.the_type a)
-    → Reports (parsed_as a) (number_of (parsed_as a)) (place_of (parsed_as a) ∷ code_of (parsed_as a) ∷ [])
-parsed_refusal (parsed.Nodes n) k = absurd (no_zero 0 (1 ∷ 2 ∷ 3 ∷ []) k)
-parsed_refusal (parsed.Refused e) k = record { result = refl; values = refl }
-parsed_refusal (parsed.UnexpectedListEnd p) k = record { result = refl; values = refl }
-parsed_refusal parsed.TextTooLong k = record { result = refl; values = refl }
-parsed_refusal parsed.TableFull k = record { result = refl; values = refl }
-
-pub indexed_refusal : (a : Indexed) → OneOf (1 ∷ 2 ∷ 3 ∷ []) (tag_of indexings.the_type a) → Reports (indexed_as a) (number_of (indexed_as a)) (0 ∷ 0 ∷ [])
-indexed_refusal (indexed.Node i) k = absurd (no_zero 0 (1 ∷ 2 ∷ []) k)
-indexed_refusal indexed.TextTooLong k = record { result = refl; values = refl }
-indexed_refusal indexed.NotATree k = record { result = refl; values = refl }
-indexed_refusal indexed.NoSuchNode k = record { result = refl; values = refl }
 
 pub found_by : {a b : Lookup} {r m : ℕ} {now : List ℕ} → a ≡ b → r ≡ m → ReportsFound b m now → ReportsFound a r now
 found_by e d t = record { result = d ∙ t.result ∙ ap found_number (sym e); values = t.values ∙ ap found_values (sym e) }
 
 pub found_node : {a : Lookup} {i n : ℕ} → a ≡ found i n → ReportsFound a 0 (i ∷ n ∷ [])
 found_node e = found_by e refl (record { result = refl; values = refl })
-
-pub found_refusal : (a : Found) → OneOf (1 ∷ 2 ∷ 3 ∷ []) (tag_of findings.the_type a) → ReportsFound (found_as a) (found_number (found_as a)) (0 ∷ 0 ∷ [])
-found_refusal (lookups.Node i n) k = absurd (no_zero 0 (1 ∷ 2 ∷ []) k)
-found_refusal lookups.TextTooLong k = record { result = refl; values = refl }
-found_refusal lookups.NotATree k = record { result = refl; values = refl }
-found_refusal lookups.NoSuchNode k = record { result = refl; values = refl }
 
 pub put_refusal : (n : ℕ) (a : PutTree) → OneOf (1 ∷ 2 ∷ 3 ∷ 4 ∷ 5 ∷ 6 ∷ 7 ∷ []) (tag_of puts.the_type a)
     → Reports (size_or n (put_as a)) (number_of (put_as a)) (0 ∷ 0 ∷ [])
@@ -87,13 +61,6 @@ size_refusal size.NotATree e k = record { result = e; size = refl }
 size_refusal size.InvalidAtom e k = record { result = e; size = refl }
 size_refusal size.WritingFinished e k = record { result = e; size = refl }
 size_refusal size.NoRoom e k = record { result = e; size = refl }
-
--- a refusal's number, place and code point, as the three methods give them
-pub reports_refusal : (a : ParsedTree) {r p k : ℕ} → r ≡ number_of (parsed_as a) → p ≡ place_of (parsed_as a) → k ≡ code_of (parsed_as a)
-    → OneOf (1 ∷ 2 ∷ 3 ∷ 4 ∷ []) (tag_of parsings.the_type a) → Reports (parsed_as a) r (p ∷ k ∷ [])
-reports_refusal a {k = k} d e f h =
-    let t = parsed_refusal a h in
-    record { result = d ∙ t.result; values = ap (λ (x : ℕ). x ∷ k ∷ []) e ∙ ap (λ (x : ℕ). place_of (parsed_as a) ∷ x ∷ []) f ∙ t.values }
 
 -- the same enquiry by another name
 pub enquiry_by_lem : {e f : Enquiry} {r : ℕ} {now : List ℕ} → e ≡ f → ReportsEnquiry e r now → ReportsEnquiry f r now

@@ -16,9 +16,8 @@ use Rattle.sise_parser.specs.Refusals.{Refusal, refusal_of}
 use Rattle.sise_parser.specs.Reader.{next_item, finish_reading}
 use Rattle.sise_parser.specs.Meaning.{answer_as, next_as, finished_as}
 use Rattle.sise_parser.specs.declared.error.ParseError.{ParseError}
-use Rattle.sise_parser.specs.declared.reader.Answer as answers
-use Rattle.sise_parser.specs.declared.reader.Answer.TheVariants as answer
-use Rattle.sise_parser.specs.declared.reader.Finished.{Finished}
+use Rattle.std.specs.Prelude.{Result, Ok, Err}
+use Rattle.sise_parser.specs.declared.reader.ParsedItem.{ParsedItem}
 use Rattle.sise_parser.specs.declared.reader.Next.{Next}
 use Rattle.sise_parser.specs.declared.reader.Reader.{Reader}
 use Rattle.sise_serializer.specs.Bytes.{pasted}
@@ -48,10 +47,10 @@ use Rattle.sise_c.proofs.Reporting.{reports_by}
 
 -- ---- the reader's calls
 
-pub next_refused : {a : answers.Answer} {x : ParseError} {n p k : ℕ} → a ≡ answer.Refused x → n ≡ (refusal_of x).number → p ≡ (refusal_of x).place → k ≡ (refusal_of x).code
+pub next_refused : {a : Result ParsedItem ParseError} {x : ParseError} {n p k : ℕ} → a ≡ Err x → n ≡ (refusal_of x).number → p ≡ (refusal_of x).place → k ≡ (refusal_of x).code
     → ReportsNext (answer_as a) n (0 ∷ p ∷ k ∷ [])
 next_refused {x = x} {n = n} {p = p} {k = k} e d f g =
-    subst (λ (a : answers.Answer). ReportsNext (answer_as a) n (0 ∷ p ∷ k ∷ [])) (sym e)
+    subst (λ (a : Result ParsedItem ParseError). ReportsNext (answer_as a) n (0 ∷ p ∷ k ∷ [])) (sym e)
     (record { result = d; values = ap (λ (z : ℕ). 0 ∷ z ∷ k ∷ []) f ∙ ap (λ (z : ℕ). 0 ∷ (refusal_of x).place ∷ z ∷ []) g })
 
 module _ (text ws : List ℕ) {k : KeptReader} (e : reader_as k ≡ reader_of ws) where
@@ -77,7 +76,7 @@ module _ (text ws : List ℕ) {k : KeptReader} (e : reader_as k ≡ reader_of ws
   unfolding finish_by
   finish_unsound d = reports_by (finish_by_lem d) refl (record { result = refl; values = refl })
 
-  pub finish_read : {r : Reader} {f g : Finished} {n : ℕ} {now : List ℕ} → k ≡ reading.Is r → finished_as f ≡ finish_reading text r → f ≡ g
+  pub finish_read : {r : Reader} {f g : Result (Unit {0}) ParseError} {n : ℕ} {now : List ℕ} → k ≡ reading.Is r → finished_as f ≡ finish_reading text r → f ≡ g
       → Reports (ending_answer (finished_as g)) n now → Reports (finish_of text ws) n now
   unfolding finish_by
   finish_read d h z t = reports_by (finish_by_lem d ∙ ap ending_answer (sym h ∙ ap finished_as z)) refl t

@@ -7,7 +7,7 @@ ghost use Rattle.sise_c.specs.Items.{ending_by, items_of, ending_of, item_words,
 ghost use Rattle.sise_c.specs.Passes.{CanCount, CountsOn, CanFill, FillsOn};
 
 use sise_parser::{
-    ParseError, ParsedItem, Reader, atom_run, is_quote_at, skip_blanks,
+    ParseError, ParsedItem, Reader, Refusal, atom_run, is_quote_at, skip_blanks,
 };
 
 // How many items there are up to the first refusal, and whether the text ends with the last.

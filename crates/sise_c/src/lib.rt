@@ -26,7 +26,7 @@ use report::{
     report_put, report_refused, size_given,
 };
 use sise_serializer::write_calls;
-use sise_tree::{find_path, index_path, parse_text};
+use sise_tree::{TreeTable, parse_text};
 use sise_tree_writer::{commit_text, measure_text, write_text};
 use sise_util::{check_atom, kind_number};
 pub use writing::{sise_begin_list, sise_end_list, sise_finish_writing, sise_put_atom};
@@ -57,7 +57,7 @@ pub fn sise_parse_tree(text: &[u8], table: &mut [u32], values: &mut Values) -> u
 pub fn sise_index_path(table: &[u32], text: &[u8], path: &[u64], values: &mut Values) -> u32
     ensures { Reports (index_path table.now text.now path.now) result values.new }
 {
-    report_indexed(index_path(table, text, path), values)
+    report_indexed(TreeTable { table, text }.index_path(path), values)
 }
 
 // Finds the node at the end of the path as the table has it, which is not tested: only the nodes on the way are read. The values are the node's index in the
@@ -65,7 +65,7 @@ pub fn sise_index_path(table: &[u32], text: &[u8], path: &[u64], values: &mut Va
 pub fn sise_find_path(table: &[u32], text: &[u8], path: &[u64], values: &mut Values) -> u32
     ensures { ReportsFound (find_path table.now text.now path.now) result values.new }
 {
-    report_found(find_path(table, text, path), values)
+    report_found(TreeTable { table, text }.find_path(path), values)
 }
 
 // Writes the tree that the table holds over the text to the buffer's start, and a line break after it if wished. The first value is how many bytes are written.

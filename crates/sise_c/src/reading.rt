@@ -10,7 +10,7 @@ ghost use Rattle.sise_c.specs.Reports.{Reports};
 ghost use Rattle.sise_c.specs.Singly.{ReportsNext, next_of, finish_of};
 
 use crate::report::{Values, report_refused};
-use sise_parser::{ParseError, ParsedItem, Phase, Reader};
+use sise_parser::{ParseError, ParsedItem, Phase, Reader, Refusal};
 
 // A reader's record in words.
 pub type ReaderWords = [u64; 3];

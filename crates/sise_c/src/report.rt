@@ -7,8 +7,8 @@ ghost use Rattle.sise_tree_writer.specs.Sizes.{measured_as};
 ghost use Rattle.sise_tree.specs.FindPath.{found_as};
 ghost use Rattle.sise_c.specs.Reports.{Reports, ReportsFound, size_or, ReportsEnquiry, size_given};
 
-use sise_parser::ParseError;
-use sise_tree::{Found, Indexed, ParsedTree};
+use sise_parser::{ParseError, Refusal};
+use sise_tree::{Found, PathError, TreeError};
 use sise_tree_writer::{Measured, PutTree};
 
 // What a call answers beside its result.
@@ -20,39 +20,49 @@ pub type Size = [u64; 3];
 // How many calls of a list ran.
 pub type CallCount = [u64; 1];
 
-pub(crate) fn report_indexed(answer: Indexed, values: &mut Values) -> u32
+pub(crate) fn report_indexed(answer: Result<usize, PathError>, values: &mut Values) -> u32
     ensures { Reports (indexed_as answer) result values.new }
 {
-    if let Indexed::Node(index) = answer {
-        *values = [index as u64, 0];
-        return 0;
+    match answer {
+        Ok(index) => {
+            *values = [index as u64, 0];
+            0
+        }
+        Err(error) => {
+            *values = [0, 0];
+            error.number()
+        }
     }
-    *values = [0, 0];
-    answer.number()
 }
 
-pub(crate) fn report_found(answer: Found, values: &mut Values) -> u32
+pub(crate) fn report_found(answer: Result<Found, PathError>, values: &mut Values) -> u32
     ensures { ReportsFound (found_as answer) result values.new }
 {
-    if let Found::Node { index, seen } = answer {
-        *values = [index as u64, seen as u64];
-        return 0;
+    match answer {
+        Ok(found) => {
+            *values = [found.index as u64, found.seen as u64];
+            0
+        }
+        Err(error) => {
+            *values = [0, 0];
+            error.number()
+        }
     }
-    *values = [0, 0];
-    answer.number()
 }
 
-pub(crate) fn report_parsed(answer: ParsedTree, values: &mut Values) -> u32
+pub(crate) fn report_parsed(answer: Result<usize, TreeError>, values: &mut Values) -> u32
     ensures { Reports (parsed_as answer) result values.new }
 {
-    if let ParsedTree::Nodes(nodes) = answer {
-        *values = [nodes as u64, 0];
-        return 0;
+    match answer {
+        Ok(nodes) => {
+            *values = [nodes as u64, 0];
+            0
+        }
+        Err(error) => {
+            *values = [error.place() as u64, error.code() as u64];
+            error.number()
+        }
     }
-    let place = answer.place();
-    let code = answer.code();
-    *values = [place as u64, code as u64];
-    answer.number()
 }
 
 pub(crate) fn report_measured(answer: Measured, size: &mut Size) -> u32

@@ -168,9 +168,6 @@ none_held text (some n) {h} e z = of (atoms_hold text n) e
     of true q = let y : Tree ≡ NotATree = sym q ∙ z in let x : ◌≡◌ {A = ℕ} 0 1 = cc in absurd (omega arith)
     of false q = let y : NoAtom ≡ NotATree = sym q ∙ z in let x : ◌≡◌ {A = ℕ} 0 1 = cc in absurd (omega arith)
 
-pub not_none : (h : Held) → OneOf (0 ∷ 1 ∷ []) (tag_of held.the_type h) → h ≡ NotATree → ⊥
-not_none h k e = ⊎_elim (λ (z : 2 ≡ 0). omega arith) (λ (z : 2 ≡ 1). omega arith) (rw e at k)
-
 -- what the answer says of the tree
 pub tree_held : (text : List ℕ) (d : Maybe Node) {h : Held} → h ≡ held_as text d → h ≡ Tree → (n : Node) × (d ≡ some n) × (atoms_hold text n ≡ true)
 tree_held text none {h} e z = let y : NotATree ≡ Tree = sym e ∙ z in let x : ◌≡◌ {A = ℕ} 0 1 = cc in absurd (omega arith)

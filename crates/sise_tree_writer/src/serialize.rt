@@ -12,7 +12,7 @@ use crate::measure::{Walked, measure_nodes};
 use crate::size::{Measured, is_size, measured_of};
 use crate::write::write_nodes;
 use sise_serializer::{Phase, Serializer};
-use sise_tree::{Held, LONGEST, holds_tree};
+use sise_tree::{Held, LONGEST, TreeTable};
 
 // What a call that writes a tree answers: the offset of the first item, or a refusal. Only a commit answers SizeChanged.
 #[derive(Clone, Copy)]
@@ -133,7 +133,7 @@ pub(crate) fn plan_tree(
     if !serializer.is_sound() {
         return refused(serializer, PutTree::UnsoundRecord);
     }
-    let held = holds_tree(text, table);
+    let held = TreeTable { table, text }.holds_tree();
     let Held::Tree = held else {
         return refused(serializer, refusal_of(held));
     };

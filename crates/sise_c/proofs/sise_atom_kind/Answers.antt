@@ -4,4 +4,4 @@ use Rattle.sise_util.specs.Atom.{kind_number}
 use Rattle.sise_c.proofs.sise_atom_kind.Goals as goal
 
 pub returns : goal.returns
-returns c = c.number.ensures ∙ ap kind_number c.check_atom-kind.ensures
+returns c = c.kind_number.ensures ∙ ap kind_number c.check_atom.ensures

@@ -13,22 +13,22 @@ count_plain-run-requires c = (_, c.loop-items.invariant)
 pub overflow_add-items : goal.overflow_add-items
 overflow_add-items c =
     let now = c.count_plain-run.ensures.on _ c.loop-items.invariant in
-    let n = fewer _ now.reached (gave_item _ _ c.next_item-next.ensures c.in-Item.is) in
+    let n = fewer _ now.reached (gave_item _ _ c.next_item-next.ensures c.in-Ok.is) in
     search rules
 
 pub loop-items-smaller : goal.loop-items-smaller
 loop-items-smaller c =
     let now = c.count_plain-run.ensures.on _ c.loop-items.invariant in
-    falls _ now.reached (gave_item _ _ c.next_item-next.ensures c.in-Item.is) c.count_plain-run.ensures.after
+    falls _ now.reached (gave_item _ _ c.next_item-next.ensures c.in-Ok.is) c.count_plain-run.ensures.after
 
 pub loop-items-preserved : goal.loop-items-preserved
 loop-items-preserved c =
-    counts_more _ (c.count_plain-run.ensures.on _ c.loop-items.invariant) (gave_item _ _ c.next_item-next.ensures c.in-Item.is)
+    counts_more _ (c.count_plain-run.ensures.on _ c.loop-items.invariant) (gave_item _ _ c.next_item-next.ensures c.in-Ok.is)
 
-pub returns-in-Refused : goal.returns-in-Refused
-returns-in-Refused c =
+pub returns-in-Err : goal.returns-in-Err
+returns-in-Err c =
     let now = c.count_plain-run.ensures.on _ c.loop-items.invariant in
-    let e = gave_refusal _ _ c.next_item-next.ensures c.in-Refused.is in
+    let e = gave_refusal _ _ c.next_item-next.ensures c.in-Err.is in
     record {
       items = counts_all _ now e;
       ending = c.ending_by-ending.ensures ∙ counts_ends _ now e;

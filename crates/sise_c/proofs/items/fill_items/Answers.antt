@@ -18,19 +18,19 @@ returns-in_default c =
 
 pub put_item-requires : goal.put_item-requires
 put_item-requires c =
-    fills_room _ _ (c.fill_plain-run.ensures.on _ _ c.loop-item.invariant) (gave_item _ _ c.next_item-next.ensures c.in-Item.is)
+    fills_room _ _ (c.fill_plain-run.ensures.on _ _ c.loop-item.invariant) (gave_item _ _ c.next_item-next.ensures c.in-Ok.is)
 
 pub overflow_add-items : goal.overflow_add-items
 overflow_add-items c =
-    let n = fewer _ (c.fill_plain-run.ensures.on _ _ c.loop-item.invariant).reached (gave_item _ _ c.next_item-next.ensures c.in-Item.is) in
+    let n = fewer _ (c.fill_plain-run.ensures.on _ _ c.loop-item.invariant).reached (gave_item _ _ c.next_item-next.ensures c.in-Ok.is) in
     let size = c.well_formed.0 in
     search rules
 
 pub loop-item-smaller : goal.loop-item-smaller
 loop-item-smaller c =
     let now = c.fill_plain-run.ensures.on _ _ c.loop-item.invariant in
-    falls _ now.reached (gave_item _ _ c.next_item-next.ensures c.in-Item.is) c.fill_plain-run.ensures.after
+    falls _ now.reached (gave_item _ _ c.next_item-next.ensures c.in-Ok.is) c.fill_plain-run.ensures.after
 
 pub loop-item-preserved : goal.loop-item-preserved
 loop-item-preserved c =
-    fills_more _ _ (c.fill_plain-run.ensures.on _ _ c.loop-item.invariant) (gave_item _ _ c.next_item-next.ensures c.in-Item.is) c.put_item.ensures c.put_item.auto.words
+    fills_more _ _ (c.fill_plain-run.ensures.on _ _ c.loop-item.invariant) (gave_item _ _ c.next_item-next.ensures c.in-Ok.is) c.put_item.ensures c.put_item.auto.words

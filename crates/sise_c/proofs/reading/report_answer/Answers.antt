@@ -2,5 +2,5 @@
 use Rattle.sise_c.proofs.SinglyLaws.{next_refused}
 use Rattle.sise_c.proofs.reading.report_answer.Goals as goal
 
-pub returns-in-Refused : goal.returns-in-Refused
-returns-in-Refused c = next_refused c.in-Refused.is c.number.ensures c.place-place.ensures c.code-code.ensures
+pub returns-in-Err : goal.returns-in-Err
+returns-in-Err c = next_refused c.in-Err.is c.number.ensures c.place-place.ensures c.code-code.ensures

@@ -6,8 +6,8 @@ use Rattle.sise_c.proofs.reading.sise_finish_reading.Goals as goal
 pub returns-in_default : goal.returns-in_default
 returns-in_default c = finish_unsound _ _ c.reader_of-kept.ensures c.in_default.is
 
-pub returns-in-Done : goal.returns-in-Done
-returns-in-Done c = finish_read _ _ c.reader_of-kept.ensures c.in-Is.is c.finish.ensures c.in-Done.is (record { result = refl; values = refl })
+pub returns-in-Ok : goal.returns-in-Ok
+returns-in-Ok c = finish_read _ _ c.reader_of-kept.ensures c.in-Is.is c.finish.ensures c.in-Ok.is (record { result = refl; values = refl })
 
-pub returns-in-Refused : goal.returns-in-Refused
-returns-in-Refused c = finish_read _ _ c.reader_of-kept.ensures c.in-Is.is c.finish.ensures c.in-Refused.is c.report_refused.ensures
+pub returns-in-Err : goal.returns-in-Err
+returns-in-Err c = finish_read _ _ c.reader_of-kept.ensures c.in-Is.is c.finish.ensures c.in-Err.is c.report_refused.ensures
