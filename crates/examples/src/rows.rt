@@ -1,9 +1,9 @@
 // Rows of the table of refusals, and lists in each other.
 use crate::line::{put_refused, put_value};
 use lines::Block;
-use sise_parser::{ParseError, ParsedItem, Phase, Reader};
+use sise_parser::{ParseError, ParsedItem, Phase, Reader, Refusal};
 use sise_serializer::{Put, Serializer};
-use sise_tree::{Indexed, ParsedTree, index_path, parse_tree};
+use sise_tree::{PathError, TreeError, TreeTable, parse_tree};
 use sise_tree_writer::{PutTree, commit_text, measure_text};
 
 pub(crate) fn put_put(out: &mut Block, at: usize, name: &[u8], answer: Put) -> usize {
@@ -13,17 +13,27 @@ pub(crate) fn put_put(out: &mut Block, at: usize, name: &[u8], answer: Put) -> u
     }
 }
 
-pub(crate) fn put_parsed(out: &mut Block, at: usize, name: &[u8], answer: ParsedTree) -> usize {
+pub(crate) fn put_parsed(
+    out: &mut Block,
+    at: usize,
+    name: &[u8],
+    answer: Result<usize, TreeError>,
+) -> usize {
     match answer {
-        ParsedTree::Nodes(nodes) => put_value(out, at, name, nodes),
-        _ => put_refused(out, at, name, answer.number(), answer.place()),
+        Ok(nodes) => put_value(out, at, name, nodes),
+        Err(error) => put_refused(out, at, name, error.number(), error.place()),
     }
 }
 
-pub(crate) fn put_indexed(out: &mut Block, at: usize, name: &[u8], answer: Indexed) -> usize {
+pub(crate) fn put_indexed(
+    out: &mut Block,
+    at: usize,
+    name: &[u8],
+    answer: Result<usize, PathError>,
+) -> usize {
     match answer {
-        Indexed::Node(index) => put_value(out, at, name, index),
-        _ => put_refused(out, at, name, answer.number(), 0),
+        Ok(index) => put_value(out, at, name, index),
+        Err(error) => put_refused(out, at, name, error.number(), 0),
     }
 }
 
@@ -34,7 +44,12 @@ fn put_wrote(out: &mut Block, at: usize, name: &[u8], answer: PutTree) -> usize 
     }
 }
 
-fn put_next(out: &mut Block, at: usize, name: &[u8], answer: Result<ParsedItem, ParseError>) -> usize {
+fn put_next(
+    out: &mut Block,
+    at: usize,
+    name: &[u8],
+    answer: Result<ParsedItem, ParseError>,
+) -> usize {
     match answer {
         Ok(_) => put_value(out, at, name, 0),
         Err(error) => put_refused(out, at, name, error.number(), error.place()),
@@ -69,7 +84,11 @@ fn table_full(out: &mut Block, at: usize) -> usize {
 // A first word that no node has.
 fn no_tree(out: &mut Block, at: usize) -> usize {
     let table = [4u32, 0, 1, 1];
-    put_indexed(out, at, b"row 15", index_path(&table, b"a", &[]))
+    let tree = TreeTable {
+        table: &table,
+        text: b"a",
+    };
+    put_indexed(out, at, b"row 15", tree.index_path(&[]))
 }
 
 fn not_finished(out: &mut Block, at: usize) -> usize {

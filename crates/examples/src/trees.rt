@@ -4,7 +4,7 @@ use crate::rows::{put_indexed, put_parsed};
 use lines::Block;
 use sise_parser::Reader;
 use sise_serializer::Serializer;
-use sise_tree::{index_path, parse_tree};
+use sise_tree::{TreeTable, parse_tree};
 use sise_tree_writer::{serialize_house, serialize_house_at, serialize_tree};
 
 // The table's words, four a line.
@@ -20,10 +20,11 @@ fn put_words(out: &mut Block, from: usize, table: &[u32]) -> usize {
 }
 
 fn put_paths(out: &mut Block, at: usize, text: &[u8], table: &[u32]) -> usize {
-    let at = put_indexed(out, at, b"no path", index_path(table, text, &[]));
-    let at = put_indexed(out, at, b"path 1 1", index_path(table, text, &[1, 1]));
-    let at = put_indexed(out, at, b"path 3", index_path(table, text, &[3]));
-    put_indexed(out, at, b"path 0 0", index_path(table, text, &[0, 0]))
+    let tree = TreeTable { table, text };
+    let at = put_indexed(out, at, b"no path", tree.index_path(&[]));
+    let at = put_indexed(out, at, b"path 1 1", tree.index_path(&[1, 1]));
+    let at = put_indexed(out, at, b"path 3", tree.index_path(&[3]));
+    put_indexed(out, at, b"path 0 0", tree.index_path(&[0, 0]))
 }
 
 // The tree on one line, in house style at 0, and in house style.

@@ -8,7 +8,7 @@ ghost use Rattle.lines.specs.Put.{output, put};
 ghost use Rattle.items.specs.Last.{refused_line, last_line};
 
 use lines::{Block, put_item, put_number};
-use sise_parser::{ParseError, Phase, Reader};
+use sise_parser::{ParseError, Phase, Reader, Refusal};
 
 fn put_refused(out: &mut Block, at: usize, error: ParseError) -> usize
     ensures { output result out.new ≡ put (output at out.old) (refused_line error) }

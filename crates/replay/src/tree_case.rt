@@ -9,9 +9,9 @@ use script::{
     Numbers, Ran, TextCase, TreeCalls, TreeLine, WriterCase, meant, read_numbers, read_text_case,
     read_tree_line, read_writer_case,
 };
-use sise_parser::Reader;
+use sise_parser::{Reader, Refusal};
 use sise_serializer::Serializer;
-use sise_tree::{Found, Indexed, ParsedTree, TreeRead, find_path, index_path, parse_tree};
+use sise_tree::{Found, PathError, TreeError, TreeRead, TreeTable, parse_tree};
 use sise_tree_writer::{
     Measured, PutTree, TreeWrote, commit_tree, measure_tree, serialize_house, serialize_house_at,
     serialize_tree,
@@ -31,13 +31,15 @@ fn fresh_numbers() -> [u64; 256]
     [0; 256]
 }
 
-fn put_parsed(out: &mut Block, at: usize, answer: ParsedTree) -> usize {
-    if let ParsedTree::Nodes(nodes) = answer {
-        return put_letter(out, at, b'#', nodes);
+fn put_parsed(out: &mut Block, at: usize, answer: Result<usize, TreeError>) -> usize {
+    match answer {
+        Ok(nodes) => put_letter(out, at, b'#', nodes),
+        Err(error) => {
+            let at = put_letter(out, at, b'!', error.number() as usize);
+            let at = put_number(out, at, error.place());
+            put_number(out, at, error.code() as usize)
+        }
     }
-    let at = put_letter(out, at, b'!', answer.number() as usize);
-    let at = put_number(out, at, answer.place());
-    put_number(out, at, answer.code() as usize)
 }
 
 // The line of a parse_tree call.
@@ -411,28 +413,29 @@ fn put_writings(
     )
 }
 
-fn put_indexed(out: &mut Block, at: usize, answer: Indexed) -> usize {
+fn put_indexed(out: &mut Block, at: usize, answer: Result<usize, PathError>) -> usize {
     match answer {
-        Indexed::Node(index) => put_letter(out, at, b'#', index),
-        _ => put_letter(out, at, b'!', answer.number() as usize),
+        Ok(index) => put_letter(out, at, b'#', index),
+        Err(error) => put_letter(out, at, b'!', error.number() as usize),
     }
 }
 
-fn put_found(out: &mut Block, at: usize, answer: Found) -> usize {
+fn put_found(out: &mut Block, at: usize, answer: Result<Found, PathError>) -> usize {
     match answer {
-        Found::Node { index, seen } => {
-            let at = put_letter(out, at, b'#', index);
-            put_number(out, at, seen)
+        Ok(found) => {
+            let at = put_letter(out, at, b'#', found.index);
+            put_number(out, at, found.seen)
         }
-        _ => put_letter(out, at, b'!', answer.number() as usize),
+        Err(error) => put_letter(out, at, b'!', error.number() as usize),
     }
 }
 
 // The line of a path, which index_path and find_path follow.
 fn put_path(out: &mut Block, at: usize, tree: &[u32], text: &[u8], path: &[u64]) -> usize {
-    let at = put_indexed(out, at, index_path(tree, text, path));
+    let table = TreeTable { table: tree, text };
+    let at = put_indexed(out, at, table.index_path(path));
     let at = lines::put_bytes(out, at, b" | ");
-    let at = put_found(out, at, find_path(tree, text, path));
+    let at = put_found(out, at, table.find_path(path));
     lines::put_byte(out, at, b'\n')
 }
 

@@ -8,7 +8,7 @@ ghost use Rattle.replay_reader.specs.Text.{phase_number, reader_text};
 
 use lines::{Block, put_item, put_letter, put_number};
 use script::{Ran, TextCase, read_text_case};
-use sise_parser::{ParseError, ParsedItem, Phase, Reader, atom_bytes};
+use sise_parser::{ParseError, ParsedItem, Phase, Reader, Refusal, atom_bytes};
 
 fn put_error(out: &mut Block, at: usize, error: ParseError) -> usize {
     let at = put_letter(out, at, b'!', error.number() as usize);
@@ -44,7 +44,12 @@ pub fn put_reader(out: &mut Block, at: usize, reader: Reader) -> usize
     put_number(out, at, reader.lists)
 }
 
-fn put_atom_of(out: &mut Block, at: usize, text: &[u8], answer: Result<ParsedItem, ParseError>) -> usize {
+fn put_atom_of(
+    out: &mut Block,
+    at: usize,
+    text: &[u8],
+    answer: Result<ParsedItem, ParseError>,
+) -> usize {
     let Ok(item) = answer else {
         return at;
     };
@@ -56,7 +61,13 @@ fn put_atom_of(out: &mut Block, at: usize, text: &[u8], answer: Result<ParsedIte
 }
 
 // The line of a next_item call that left the record `reader`.
-fn put_call(out: &mut Block, at: usize, text: &[u8], reader: Reader, answer: Result<ParsedItem, ParseError>) -> usize {
+fn put_call(
+    out: &mut Block,
+    at: usize,
+    text: &[u8],
+    reader: Reader,
+    answer: Result<ParsedItem, ParseError>,
+) -> usize {
     let at = put_answer(out, at, answer);
     let at = put_reader(out, at, reader);
     let at = put_atom_of(out, at, text, answer);

@@ -6,11 +6,9 @@ use mathlib.Core.List.{List, [], ◌∷◌}
 use types.Run.{OneOf}
 use denote.Enum.Declared.{tag_of}
 use Rattle.sise_serializer.proofs.Running.{no_zero}
-use Rattle.sise_tree.specs.Answers.{Answer, answered, path_refusal, number_of}
+use Rattle.sise_tree.specs.Answers.{Answer, answered, number_of}
 use Rattle.sise_tree_writer.specs.Answers.{put_as}
-use Rattle.sise_tree.specs.declared.tree.PathError.{PathError}
-use Rattle.sise_tree.specs.declared.tree.PathError.TheVariants.{TextTooLong, NotATree, NoSuchNode}
-use Rattle.sise_tree.specs.FindPath.{Lookup, found, found_as, found_number, found_values}
+use Rattle.sise_tree.specs.FindPath.{Lookup, found, found_number, found_values}
 use Rattle.sise_tree_writer.specs.declared.serialize.PutTree.{PutTree}
 use Rattle.sise_tree_writer.specs.declared.serialize.PutTree.TheVariants as put
 use Rattle.sise_tree_writer.specs.contracts.serialize.PutTree as puts
@@ -29,7 +27,6 @@ reports_by e d t = record { result = d ∙ t.result ∙ ap number_of (sym e); va
 
 pub reports_answered : {a : Answer} {n : ℕ} → a ≡ answered n → Reports a 0 (n ∷ 0 ∷ [])
 reports_answered e = reports_by e refl (record { result = refl; values = refl })
-
 
 pub found_by : {a b : Lookup} {r m : ℕ} {now : List ℕ} → a ≡ b → r ≡ m → ReportsFound b m now → ReportsFound a r now
 found_by e d t = record { result = d ∙ t.result ∙ ap found_number (sym e); values = t.values ∙ ap found_values (sym e) }

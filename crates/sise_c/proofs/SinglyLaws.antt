@@ -16,7 +16,7 @@ use Rattle.sise_parser.specs.Refusals.{Refusal, refusal_of}
 use Rattle.sise_parser.specs.Reader.{next_item, finish_reading}
 use Rattle.sise_parser.specs.Meaning.{answer_as, next_as, finished_as}
 use Rattle.sise_parser.specs.declared.error.ParseError.{ParseError}
-use Rattle.std.specs.Prelude.{Result, Ok, Err}
+use Rattle.std.specs.Prelude.{Result, Err}
 use Rattle.sise_parser.specs.declared.reader.ParsedItem.{ParsedItem}
 use Rattle.sise_parser.specs.declared.reader.Next.{Next}
 use Rattle.sise_parser.specs.declared.reader.Reader.{Reader}

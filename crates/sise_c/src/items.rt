@@ -6,9 +6,7 @@ ghost use Rattle.sise_serializer.specs.Bytes.{pasted};
 ghost use Rattle.sise_c.specs.Items.{ending_by, items_of, ending_of, item_words, all_words};
 ghost use Rattle.sise_c.specs.Passes.{CanCount, CountsOn, CanFill, FillsOn};
 
-use sise_parser::{
-    ParseError, ParsedItem, Reader, Refusal, atom_run, is_quote_at, skip_blanks,
-};
+use sise_parser::{ParseError, ParsedItem, Reader, Refusal, atom_run, is_quote_at, skip_blanks};
 
 // How many items there are up to the first refusal, and whether the text ends with the last.
 #[derive(Clone, Copy)]

@@ -10,8 +10,7 @@ use Rattle.sise_parser.specs.Reader as reader
 use Rattle.sise_parser.specs.Reader.{fresh_reader, next_item}
 use Rattle.sise_parser.specs.Meaning.{answer_as, next_as}
 use Rattle.sise_parser.specs.declared.error.ParseError.{ParseError}
-use Rattle.sise_parser.specs.declared.reader.Answer.{Answer}
-use Rattle.sise_parser.specs.declared.reader.Answer.TheVariants.{Item, Refused}
+use Rattle.std.specs.Prelude.{Result, Ok, Err}
 use Rattle.sise_parser.specs.declared.reader.ParsedItem.{ParsedItem}
 use Rattle.sise_parser.specs.declared.reader.Next.{Next}
 use Rattle.sise_parser.specs.declared.reader.Reader.{Reader}
@@ -34,16 +33,16 @@ given text r k i d = rw (d, count_from)
 
 -- one call, and what it has to answer
 module _ {text : List ℕ} {r : Reader} {count left : ℕ} (c : Counted text r count left) {n : Next} (e : next_as n ≡ next_item text r) where
-  answered : {a : Answer} → n.answer ≡ a → (next_item text r).answer ≡ answer_as a
+  answered : {a : Result ParsedItem ParseError} → n.answer ≡ a → (next_item text r).answer ≡ answer_as a
   answered d = ap (λ (x : reader.Next). x.answer) (sym e) ∙ ap answer_as d
 
-  stopped : {f : ParseError} → n.answer ≡ Refused f → count ≡ count_items text
+  stopped : {f : ParseError} → n.answer ≡ Err f → count ≡ count_items text
   stopped {f} d = sum (refused text r left (refusal_of f) (answered d)) c.total
     where
       sum : count_from (suc left) text r ≡ 0 → count + count_from (suc left) text r ≡ count_items text → count ≡ count_items text
       sum z t = omega arith
 
-  counted : {i : ParsedItem} → n.answer ≡ Item i → count + 1 + count_from left text n.reader ≡ count_items text
+  counted : {i : ParsedItem} → n.answer ≡ Ok i → count + 1 + count_from left text n.reader ≡ count_items text
   counted {i} d =
       sum (given text r left i (answered d) ∙ ap (λ (x : reader.Next). 1 + count_from left text x.reader) (sym e)) c.total
     where
@@ -51,14 +50,14 @@ module _ {text : List ℕ} {r : Reader} {count left : ℕ} (c : Counted text r c
           → count + 1 + count_from left text n.reader ≡ count_items text
       sum z t = omega arith
 
-  last : {i : ParsedItem} → n.answer ≡ Item i → left ≡ 0 → count + 1 ≡ count_items text
+  last : {i : ParsedItem} → n.answer ≡ Ok i → left ≡ 0 → count + 1 ≡ count_items text
   unfolding count_from
   last d z = sum (ap (λ (k : ℕ). count_from k text n.reader) z) (counted d)
     where
       sum : count_from left text n.reader ≡ 0 → count + 1 + count_from left text n.reader ≡ count_items text → count + 1 ≡ count_items text
       sum y t = omega arith
 
-  on : {i : ParsedItem} → n.answer ≡ Item i → (left ≡ 0 → ⊥) → Counted text n.reader (count + 1) (left - 1)
+  on : {i : ParsedItem} → n.answer ≡ Ok i → (left ≡ 0 → ⊥) → Counted text n.reader (count + 1) (left - 1)
   on d z =
       let b : count + left ≡ length text = c.bound in
       record { total = ap (λ (k : ℕ). count + 1 + count_from k text n.reader) one ∙ counted d; bound = omega arith }
@@ -73,7 +72,7 @@ pub returns-in_default : goal.returns-in_default
 returns-in_default c = stopped c.loop-count.invariant c.next_item-next.ensures c.in_default.is
 
 pub returns-then-left-eq0 : goal.returns-then-left-eq0
-returns-then-left-eq0 c = last c.loop-count.invariant c.next_item-next.ensures c.in-Item.is c.if-left-eq0.true
+returns-then-left-eq0 c = last c.loop-count.invariant c.next_item-next.ensures c.in-Ok.is c.if-left-eq0.true
 
 pub loop-count-preserved : goal.loop-count-preserved
-loop-count-preserved c = on c.loop-count.invariant c.next_item-next.ensures c.in-Item.is (λ (z : c.loop-count.left ≡ 0). omega arith)
+loop-count-preserved c = on c.loop-count.invariant c.next_item-next.ensures c.in-Ok.is (λ (z : c.loop-count.left ≡ 0). omega arith)
