@@ -1,16 +1,13 @@
 // The reader's calls one by one, over the words of a record that the caller keeps: position, phase (0 beginning, 1 parsing, 2 finishing) and open lists.
 ghost use Rattle.std.specs.Prelude.{◌≡◌, take};
-ghost use Rattle.std.proofs.Math.Option.{some};
-ghost use Rattle.sise_parser.specs.Reader.{reader};
 ghost use Rattle.sise_parser.specs.Meaning.{answer_as};
 ghost use Rattle.sise_c.specs.Items.{item_words};
-ghost use Rattle.sise_c.specs.Kept.{reader_as};
-ghost use Rattle.sise_c.specs.Records.{reader_phase_word, reader_of, reader_words};
+ghost use Rattle.sise_c.specs.Records.{reader_phase, reader_of, reader_words};
 ghost use Rattle.sise_c.specs.Reports.{Reports};
 ghost use Rattle.sise_c.specs.Singly.{ReportsNext, next_of, finish_of};
 
 use crate::report::{Values, report_refused};
-use sise_parser::{ParseError, ParsedItem, Phase, Reader, Refusal};
+use sise_parser::{Answer, Finished, Next, ParsedItem, Phase, Reader};
 
 // A reader's record in words.
 pub type ReaderWords = [u64; 3];
@@ -18,68 +15,57 @@ pub type ReaderWords = [u64; 3];
 // An item in words: kind, place, and of an atom its length.
 pub type ItemWords = [u64; 3];
 
-// The record that words mean, if they mean one.
-#[derive(Clone, Copy)]
-enum KeptReader {
-    Is(Reader),
-    Unsound,
-}
-
-// The record with these parts.
-fn kept_in(position: usize, phase: Phase, lists: usize) -> KeptReader
-    ensures { reader_as result ≡ some (reader position phase lists) }
+// The phase of this number, if it is one's.
+fn phase_of(word: u64) -> Option<Phase>
+    ensures { result ≡ reader_phase word }
 {
-    KeptReader::Is(Reader {
-        position,
-        phase,
-        lists,
-    })
+    match word {
+        0 => Some(Phase::Beginning),
+        1 => Some(Phase::Parsing),
+        2 => Some(Phase::Finishing),
+        _ => None,
+    }
 }
 
 // Words mean a record if the second is a phase.
-fn reader_of(words: &ReaderWords) -> KeptReader
-    ensures { reader_as result ≡ reader_of words.now }
+#[tactic(auto, unfolding(crate::specs::Records::reader_of))]
+fn reader_of(words: &ReaderWords) -> Option<Reader>
+    ensures { result ≡ reader_of words.now }
 {
-    let position = words[0] as usize;
-    let phase = words[1];
-    let lists = words[2] as usize;
-    match phase {
-        0 => kept_in(position, Phase::Beginning, lists),
-        1 => kept_in(position, Phase::Parsing, lists),
-        2 => kept_in(position, Phase::Finishing, lists),
-        _ => KeptReader::Unsound,
-    }
+    let phase = phase_of(words[1])?;
+    Some(Reader {
+        position: words[0] as usize,
+        phase,
+        lists: words[2] as usize,
+    })
 }
 
-fn phase_word(phase: Phase) -> u64
-    ensures { result ≡ reader_phase_word phase }
+fn reader_words(reader: Reader) -> ReaderWords
+    ensures { result ≡ reader_words reader }
 {
-    match phase {
-        Phase::Beginning => 0,
-        Phase::Parsing => 1,
-        Phase::Finishing => 2,
-    }
+    let phase = reader.phase;
+    [reader.position as u64, phase as u64, reader.lists as u64]
 }
 
-fn put_item(item: ParsedItem, words: &mut ItemWords)
-    ensures { words.new ≡ take 3 (item_words item) }
+fn item_words(item: ParsedItem) -> ItemWords
+    ensures { result ≡ take 3 (item_words item) }
 {
     match item {
-        ParsedItem::Atom { pos, len } => *words = [0, pos as u64, len as u64],
-        ParsedItem::ListStart { pos } => *words = [1, pos as u64, 0],
-        ParsedItem::ListEnd { pos } => *words = [2, pos as u64, 0],
+        ParsedItem::Atom { pos, len } => [0, pos as u64, len as u64],
+        ParsedItem::ListStart { pos } => [1, pos as u64, 0],
+        ParsedItem::ListEnd { pos } => [2, pos as u64, 0],
     }
 }
 
-fn report_answer(answer: Result<ParsedItem, ParseError>, item: &mut ItemWords) -> u32
+fn report_answer(answer: Answer, item: &mut ItemWords) -> u32
     ensures { ReportsNext (answer_as answer) result item.new }
 {
     match answer {
-        Ok(found) => {
-            put_item(found, item);
+        Answer::Item(found) => {
+            *item = item_words(found);
             0
         }
-        Err(error) => {
+        Answer::Refused(error) => {
             let place = error.place();
             let code = error.code();
             *item = [0, place as u64, code as u64];
@@ -88,48 +74,37 @@ fn report_answer(answer: Result<ParsedItem, ParseError>, item: &mut ItemWords) -
     }
 }
 
-fn put_reader(reader: Reader, words: &mut ReaderWords)
-    ensures { words.new ≡ reader_words reader }
-{
-    let phase = reader.phase;
-    *words = [
-        reader.position as u64,
-        phase_word(phase),
-        reader.lists as u64,
-    ];
-}
-
 // Reads the next item of the text. `item` is its kind, place and length; of a refusal 0, its place and code point. The record's words are for the next call.
+#[tactic(auto, unfolding(crate::specs::Singly::next_of, crate::specs::Singly::next_by))]
 pub fn sise_next_item(text: &[u8], record: &mut ReaderWords, item: &mut ItemWords) -> u32
     ensures answer { ReportsNext (next_of text.now «record».old).answer result item.new }
     ensures words { «record».new ≡ (next_of text.now «record».old).words }
 {
-    let kept = reader_of(record);
-    let KeptReader::Is(reader) = kept else {
+    let Some(reader) = reader_of(record) else {
         *item = [0, 0, 0];
         return 11;
     };
     let next = reader.next_item(text);
     let after = next.reader;
     let answer = next.answer;
-    put_reader(after, record);
+    *record = reader_words(after);
     report_answer(answer, item)
 }
 
 // Whether the text ends after the last item. The record's words are of no use after it.
+#[tactic(auto, unfolding(crate::specs::Singly::finish_of, crate::specs::Singly::finish_by))]
 pub fn sise_finish_reading(text: &[u8], record: &ReaderWords, values: &mut Values) -> u32
     ensures { Reports (finish_of text.now «record».now) result values.new }
 {
-    let kept = reader_of(record);
-    let KeptReader::Is(reader) = kept else {
+    let Some(reader) = reader_of(record) else {
         *values = [0, 0];
         return 11;
     };
     match reader.finish(text) {
-        Ok(()) => {
+        Finished::Done => {
             *values = [0, 0];
             0
         }
-        Err(error) => report_refused(error, values),
+        Finished::Refused(error) => report_refused(error, values),
     }
 }
