@@ -1,11 +1,11 @@
 // The reader's calls one by one, over the words of a record that the caller keeps: position, phase (0 beginning, 1 parsing, 2 finishing) and open lists.
-ghost use Rattle.std.specs.Prelude.{◌≡◌, take};
+ghost use Rattle.std.specs.Prelude.{◌≡◌};
 ghost use Rattle.sise_parser.specs.Meaning.{answer_as};
-ghost use Rattle.sise_c.specs.Items.{item_words};
 ghost use Rattle.sise_c.specs.Records.{reader_phase, reader_of, reader_words};
 ghost use Rattle.sise_c.specs.Reports.{Reports};
 ghost use Rattle.sise_c.specs.Singly.{ReportsNext, next_of, finish_of};
 
+use crate::items::item_words;
 use crate::report::{Values, report_refused};
 use sise_parser::{Answer, Finished, Next, ParsedItem, Phase, Reader};
 
@@ -47,22 +47,13 @@ fn reader_words(reader: Reader) -> ReaderWords
     [reader.position as u64, phase as u64, reader.lists as u64]
 }
 
-fn item_words(item: ParsedItem) -> ItemWords
-    ensures { result ≡ take 3 (item_words item) }
-{
-    match item {
-        ParsedItem::Atom { pos, len } => [0, pos as u64, len as u64],
-        ParsedItem::ListStart { pos } => [1, pos as u64, 0],
-        ParsedItem::ListEnd { pos } => [2, pos as u64, 0],
-    }
-}
-
 fn report_answer(answer: Answer, item: &mut ItemWords) -> u32
     ensures { ReportsNext (answer_as answer) result item.new }
 {
     match answer {
         Answer::Item(found) => {
-            *item = item_words(found);
+            let [kind, place, len, _] = item_words(found);
+            *item = [kind, place, len];
             0
         }
         Answer::Refused(error) => {

@@ -1,13 +1,16 @@
--- The four writes, one after the other, are one change of the words.
-use Prim.Native.Nat.{ℕ, ◌+◌, ◌≤◌}
+-- The four writes, one after the other, are one change of the words, to those of the item.
+use Prim.Native.Nat.{ℕ, ◌+◌, ◌*◌, ◌≤◌}
 use native.Mathlib.Omega.{arith}
-use mathlib.Core.Path.{◌≡◌, sym, ap, ◌∙◌}
+use mathlib.Core.Path.{◌≡◌, refl, sym, ap, ◌∙◌}
 use mathlib.Core.List.{List, [], ◌∷◌}
-use lib.ListN.{length, set, length-set}
+use lib.ListN.{length, get_or, set, length-set}
 use Rattle.sise_serializer.specs.Bytes.{pasted}
 use Rattle.sise_serializer.proofs.Bytes.{pasted_none}
 use Rattle.sise_serializer.proofs.Running.{pasted_cons}
-use Rattle.sise_c.proofs.items.put_words.Goals as goal
+use Rattle.sise_parser.specs.declared.reader.ParsedItem.{ParsedItem}
+use Rattle.sise_parser.specs.declared.reader.ParsedItem.TheVariants.{Atom, ListStart, ListEnd}
+use Rattle.sise_c.specs.Items.{item_words}
+use Rattle.sise_c.proofs.items.put_item.Goals as goal
 
 four : (l : List ℕ) (at a b c d : ℕ) → at + 4 ≤ length l → set (set (set (set l at a) (at + 1) b) (at + 2) c) (at + 3) d ≡ pasted l at (a ∷ b ∷ c ∷ d ∷ [])
 four l at a b c d h =
@@ -37,5 +40,10 @@ bounds-words-at-3 c = simp length-set (omega (arith, c.requires))
 pub bounds-words-at-4 : goal.bounds-words-at-4
 bounds-words-at-4 c = simp length-set (omega (arith, c.requires))
 
+words_are : {l : List ℕ} (i : ParsedItem) → l ≡ item_words i → get_or l 0 0 ∷ get_or l 1 0 ∷ get_or l 2 0 ∷ get_or l 3 0 ∷ [] ≡ item_words i
+words_are (Atom p n) e = rw e refl
+words_are (ListStart p) e = rw e refl
+words_are (ListEnd p) e = rw e refl
+
 pub returns : goal.returns
-returns c = four _ _ _ _ _ _ (omega (arith, c.requires))
+returns c = four _ _ _ _ _ _ (omega (arith, c.requires)) ∙ ap (pasted c.args.words.now (4 * c.args.items)) (words_are c.args.item c.item_words.ensures)
