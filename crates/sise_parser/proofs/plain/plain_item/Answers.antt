@@ -25,5 +25,5 @@ module _ (text : List ℕ) (r : Reader) (sound : is_sound (length text) r ≡ tr
 pub plain_at-requires : goal.plain_at-requires
 plain_at-requires c = let o = (sound_parts _ _ c.requires).opened in omega (arith, c.skip_blanks.ensures.after)
 
-pub returns : goal.returns
-returns c = given c.args.text.now c.args.reader c.requires c.if-reader-eq0.false _ c.plain_at.result c.skip_blanks.ensures.token c.plain_at.ensures
+pub returns-clause-item : goal.returns-clause-item
+returns-clause-item c = given c.args.text.now c.args.reader c.requires c.if-reader-eq0.false _ c.plain_at.result c.skip_blanks.ensures.token c.plain_at.ensures.item
