@@ -6,6 +6,7 @@ use mathlib.Core.Path.{◌≡◌, refl, sym, ap, ◌∙◌}
 use mathlib.Core.Bool.{Bool, true, false}
 use mathlib.Core.List.{List, [], ◌∷◌}
 use lib.ListN.{length, get_or}
+use Rattle.sise_parser.specs.Phases.{phase_number}
 use Rattle.sise_parser.specs.Reader.{reader, fresh_reader}
 use Rattle.sise_parser.specs.declared.reader.Phase as readings
 use Rattle.sise_parser.specs.declared.reader.Phase.TheVariants as reading
@@ -16,6 +17,13 @@ use Rattle.sise_serializer.specs.declared.serializer.Phase.TheVariants as writin
 use Rattle.sise_serializer.specs.declared.serializer.Serializer.{Serializer}
 use Rattle.std.specs.Prelude.{Option, None, Some, option_map}
 use Rattle.sise_c.specs.Records.{reader_phase, reader_phase_word, reader_of, reader_words, writer_phase, writer_phase_word, flag_of, flag_word, serializer_in, serializer_of, serializer_words}
+
+-- a number that no phase has
+pub no_reader_phase : (n : ℕ) → ((f : readings.Phase) → phase_number f ≡ n → ⊥) → reader_phase n ≡ None
+no_reader_phase zero h = absurd (h reading.Beginning refl)
+no_reader_phase (suc zero) h = absurd (h reading.Parsing refl)
+no_reader_phase (suc (suc zero)) h = absurd (h reading.Finishing refl)
+no_reader_phase (suc (suc (suc n))) h = refl
 
 -- ---- a record's words mean it
 pub reader_kept : (r : Reader) → reader_of (reader_words r) ≡ Some r

@@ -1,33 +1,28 @@
 // The items of a whole text as words, four an item: the words that write_calls takes for the calls that write them.
-ghost use Rattle.std.specs.Prelude.{◌≡◌, ◌+◌, ◌*◌, ◌≤◌, [], ◌∷◌, length};
+ghost use Rattle.std.specs.Prelude.{◌≡◌, ◌+◌, ◌*◌, ◌≤◌, [], ◌∷◌, length, MatchResult};
 ghost use Rattle.sise_parser.specs.Refusals.{refusal_of};
 ghost use Rattle.sise_parser.specs.Meaning.{finished_as};
+ghost use Rattle.sise_parser.specs.Reader.{ended, not_ended};
+ghost use Rattle.sise_tree.specs.Answers.{parsed_as};
 ghost use Rattle.sise_serializer.specs.Bytes.{pasted};
-ghost use Rattle.sise_c.specs.Items.{ending_by, items_of, ending_of, item_words, all_words};
+ghost use Rattle.sise_c.specs.Items.{ending_by, items_of, ending_of, item_words, all_words, read_items};
 
-use sise_parser::{Answer, Finished, ParseError, ParsedItem, Reader, plain_item};
+use sise_parser::{ParseError, ParsedItem, Reader, plain_item};
+use sise_tree::TreeError;
 
-// How many items there are up to the first refusal, and whether the text ends with the last.
-#[derive(Clone, Copy)]
-pub(crate) struct Counted {
-    pub items: usize,
-    pub ending: Finished,
-}
-
-// What the refusal that follows the items says: where it is 9 they are all read, and finish looks at the rest of the text.
-fn ending_by(text: &[u8], reader: Reader, error: ParseError) -> Finished
+// What the refusal that follows the items says: that they are all read, and then finish looks at the rest of the text, or why no more can be.
+fn ending_by(text: &[u8], reader: Reader, error: ParseError) -> Result<(), ParseError>
     ensures { finished_as result ≡ ending_by text.now reader (refusal_of error) }
 {
-    if error.number() == 9 {
+    if error == ParseError::ParsingFinished {
         return reader.finish(text);
     }
-    Finished::Refused(error)
+    Err(error)
 }
 
 // Reads the items one after the other, and counts them.
-pub(crate) fn count_items(text: &[u8]) -> Counted
-    ensures items { result.items ≡ length (items_of text.now) }
-    ensures ending { finished_as result.ending ≡ ending_of text.now }
+pub(crate) fn count_items(text: &[u8]) -> Result<usize, ParseError>
+    ensures { MatchResult result (λ n. (n ≡ length (items_of text.now)) × (ending_of text.now ≡ ended)) (λ e. ending_of text.now ≡ not_ended (refusal_of e)) }
 {
     let mut reader = Reader::new();
     let mut items = 0;
@@ -38,16 +33,12 @@ pub(crate) fn count_items(text: &[u8]) -> Counted
             continue;
         }
         let next = reader.next_item(text);
-        let answer = next.answer;
-        match answer {
-            Answer::Item(_) => {
+        match next.answer {
+            Ok(_) => {
                 items += 1;
                 reader = next.reader;
             }
-            Answer::Refused(error) => {
-                let ending = ending_by(text, reader, error);
-                return Counted { items, ending };
-            }
+            Err(error) => return ending_by(text, reader, error).and(Ok(items)),
         }
     }
 }
@@ -91,12 +82,25 @@ pub(crate) fn fill_items(text: &[u8], words: &mut [u64])
             continue;
         }
         let next = reader.next_item(text);
-        let answer = next.answer;
-        let Answer::Item(item) = answer else {
+        let Ok(item) = next.answer else {
             return;
         };
         put_item(words, items, item);
         items += 1;
         reader = next.reader;
     }
+}
+
+// Reads the items of a whole text into words, if they have room, and answers how many there are.
+#[tactic(auto, unfolding(crate::specs::Items::read_items, crate::specs::Items::items_in))]
+pub(crate) fn read_items(text: &[u8], words: &mut [u64]) -> Result<usize, TreeError>
+    ensures answer { parsed_as result ≡ (read_items text.now words.old).answer }
+    ensures words { words.new ≡ (read_items text.now words.old).words }
+{
+    let items = count_items(text)?;
+    if items > words.len() / 4 {
+        return Err(TreeError::TableFull);
+    }
+    fill_items(text, words);
+    Ok(items)
 }

@@ -1,5 +1,10 @@
 -- What the loop keeps: the items counted, and those that are left, are all; the position, which each item moves, measures what is left.
-use Rattle.std.proofs.Common.{rules, ◌∙◌, sym, arith}
+use Rattle.std.proofs.Common.{◌≡◌, ℕ, rules, ◌∙◌, sym, arith, Result, Ok, Err, MatchResult}
+use Rattle.std.specs.Result.{result_and}
+use Rattle.sise_parser.specs.Refusals.{refusal_of}
+use Rattle.sise_parser.specs.Reader.{Ending, ended, not_ended}
+use Rattle.sise_parser.specs.Meaning.{finished_as}
+use Rattle.sise_parser.specs.declared.error.ParseError.{ParseError}
 use Rattle.sise_c.proofs.ItemLaws.{gave_item, gave_refusal, falls, fewer, counts_none, counts_more, counts_all, counts_ends}
 use Rattle.sise_c.proofs.items.count_items.Goals as goal
 
@@ -10,27 +15,29 @@ pub plain_item-requires : goal.plain_item-requires
 plain_item-requires c = c.loop-plain.invariant.reached.sound
 
 pub overflow_add-items : goal.overflow_add-items
-overflow_add-items c = let n = fewer _ c.loop-plain.invariant.reached (sym c.in-Some.ensures) in search rules
+overflow_add-items c = let n = fewer _ c.loop-plain.invariant.reached (sym c.in-Some.ensures.item) in search rules
 
 pub loop-plain-smaller-in-Some : goal.loop-plain-smaller-in-Some
-loop-plain-smaller-in-Some c = falls _ c.loop-plain.invariant.reached (sym c.in-Some.ensures) (omega arith)
+loop-plain-smaller-in-Some c = falls _ c.loop-plain.invariant.reached (sym c.in-Some.ensures.item) (omega arith)
 
 pub loop-plain-preserved-in-Some : goal.loop-plain-preserved-in-Some
-loop-plain-preserved-in-Some c = counts_more _ c.loop-plain.invariant (sym c.in-Some.ensures)
+loop-plain-preserved-in-Some c = counts_more _ c.loop-plain.invariant (sym c.in-Some.ensures.item)
 
-pub overflow_add-items-in-Item : goal.overflow_add-items-in-Item
-overflow_add-items-in-Item c = let n = fewer _ c.loop-plain.invariant.reached (gave_item _ _ c.next_item-next.ensures c.in-Item.is) in search rules
+pub overflow_add-items-in-Ok : goal.overflow_add-items-in-Ok
+overflow_add-items-in-Ok c = let n = fewer _ c.loop-plain.invariant.reached (gave_item _ _ c.next_item-next.ensures c.in-Ok.is) in search rules
 
 pub loop-plain-smaller : goal.loop-plain-smaller
-loop-plain-smaller c = falls _ c.loop-plain.invariant.reached (gave_item _ _ c.next_item-next.ensures c.in-Item.is) (omega arith)
+loop-plain-smaller c = falls _ c.loop-plain.invariant.reached (gave_item _ _ c.next_item-next.ensures c.in-Ok.is) (omega arith)
 
 pub loop-plain-preserved : goal.loop-plain-preserved
-loop-plain-preserved c = counts_more _ c.loop-plain.invariant (gave_item _ _ c.next_item-next.ensures c.in-Item.is)
+loop-plain-preserved c = counts_more _ c.loop-plain.invariant (gave_item _ _ c.next_item-next.ensures c.in-Ok.is)
 
-pub returns-in-Refused : goal.returns-in-Refused
-returns-in-Refused c =
-    let e = gave_refusal _ _ c.next_item-next.ensures c.in-Refused.is in
-    record {
-      items = counts_all _ c.loop-plain.invariant e;
-      ending = c.ending_by-ending.ensures ∙ counts_ends _ c.loop-plain.invariant e;
-    }
+counted : {m : ℕ} {x : Ending} (f : Result (Unit {0}) ParseError) {r : Result ℕ ParseError} {n : ℕ} → n ≡ m → finished_as f ≡ x → r ≡ result_and f (Ok n)
+    → MatchResult r (λ k. (k ≡ m) × (x ≡ ended)) (λ e. x ≡ not_ended (refusal_of e))
+counted (Ok u) d z e = rw e (d, sym z)
+counted (Err x) d z e = rw e (sym z)
+
+pub returns-in-Err : goal.returns-in-Err
+returns-in-Err c =
+    let e = gave_refusal _ _ c.next_item-next.ensures c.in-Err.is in
+    counted c.ending_by.result (counts_all _ c.loop-plain.invariant e) (c.ending_by.ensures ∙ counts_ends _ c.loop-plain.invariant e) c.and.ensures
