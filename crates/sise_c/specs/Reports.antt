@@ -1,6 +1,7 @@
 -- What a call reports to a program in another language: its result, and words that the program lent (document 01, "Refusals"; document 02, 2.2).
 -- Assumes nothing.
-use Rattle.std.specs.Prelude.{ℕ, ◌≡◌, Bool, cond, List, [], ◌∷◌, length, get_or}
+use Rattle.std.specs.Prelude.{ℕ, ◌-◌, ◌≡◌, Bool, cond, List, [], ◌∷◌, length, get_or, set, replicate}
+use Rattle.sise_parser.specs.Refusals.{Refusal}
 use Rattle.sise_serializer.specs.Serializer.{Style, fresh_serializer}
 use Rattle.sise_tree.specs.Answers.{Answer, answered, refused, number_of}
 use Rattle.sise_tree.specs.FindPath.{Lookup, found_number, found_values}
@@ -15,6 +16,10 @@ checked b = cond b 0 17
 abbrev pub values_of : Answer → List ℕ
 values_of (answered n) = n ∷ 0 ∷ []
 values_of (refused e) = e.place ∷ e.code ∷ []
+
+-- the n words of a refusal
+abbrev pub refusal_words : ℕ → Refusal → List ℕ
+refusal_words n e = set (set (replicate n 0) (n - 2) e.place) (n - 1) e.code
 
 -- the number returned, r, and the two lent words, which end as `now`, are those of the answer a
 pub record Reports (a : Answer) (r : ℕ) (now : List ℕ) : Type 0 where

@@ -19,11 +19,11 @@ ghost use Rattle.sise_tree_writer.specs.Writing.{write_text};
 ghost use Rattle.sise_c.specs.Reports.{checked, Reports, ReportsFound, size_of, ReportsSize, TellsCommit, WritesCommit};
 ghost use Rattle.sise_c.specs.Items.{read_items};
 
-use items::{count_items, fill_items};
+use items::read_items;
 pub use reading::{sise_finish_reading, sise_next_item};
 use report::{
-    CallCount, Size, Values, report_found, report_indexed, report_measured, report_parsed,
-    report_put, report_refused, size_given,
+    CallCount, Size, Values, found_words, number_words, report, report_measured, report_put,
+    size_given,
 };
 use sise_serializer::write_calls;
 use sise_tree::{TreeTable, parse_text};
@@ -50,14 +50,15 @@ pub fn sise_parse_tree(text: &[u8], table: &mut [u32], values: &mut Values) -> u
     ensures answer { Reports (parse_text text.now table.old).answer result values.new }
     ensures words { table.new ≡ (parse_text text.now table.old).words }
 {
-    report_parsed(parse_text(text, table), values)
+    report(parse_text(text, table).map(number_words), values)
 }
 
 // Finds the node at the end of the path. The first value is its index in the table.
 pub fn sise_index_path(table: &[u32], text: &[u8], path: &[u64], values: &mut Values) -> u32
     ensures { Reports (index_path table.now text.now path.now) result values.new }
 {
-    report_indexed(TreeTable { table, text }.index_path(path), values)
+    let tree = TreeTable { table, text };
+    report(tree.index_path(path).map(number_words), values)
 }
 
 // Finds the node at the end of the path as the table has it, which is not tested: only the nodes on the way are read. The values are the node's index in the
@@ -65,7 +66,8 @@ pub fn sise_index_path(table: &[u32], text: &[u8], path: &[u64], values: &mut Va
 pub fn sise_find_path(table: &[u32], text: &[u8], path: &[u64], values: &mut Values) -> u32
     ensures { ReportsFound (find_path table.now text.now path.now) result values.new }
 {
-    report_found(TreeTable { table, text }.find_path(path), values)
+    let tree = TreeTable { table, text };
+    report(tree.find_path(path).map(found_words), values)
 }
 
 // Writes the tree that the table holds over the text to the buffer's start, and a line break after it if wished. The first value is how many bytes are written.
@@ -156,18 +158,7 @@ pub fn sise_read_items(text: &[u8], words: &mut [u64], values: &mut Values) -> u
     ensures answer { Reports (read_items text.now words.old).answer result values.new }
     ensures words { words.new ≡ (read_items text.now words.old).words }
 {
-    let counted = count_items(text);
-    let ending = counted.ending;
-    if let Err(error) = ending {
-        return report_refused(error, values);
-    }
-    if counted.items > words.len() / 4 {
-        *values = [0, 0];
-        return 14;
-    }
-    fill_items(text, words);
-    *values = [counted.items as u64, 0];
-    0
+    report(read_items(text, words).map(number_words), values)
 }
 
 // Runs a list of writer calls, as write_calls of sise_serializer does, and returns how many bytes of the buffer are written. `ran` is how many calls ran.

@@ -1,14 +1,11 @@
 // How an answer is reported: its number as the result, its values in the words that the caller lent.
-ghost use Rattle.std.specs.Prelude.{◌≡◌};
-ghost use Rattle.sise_parser.specs.Refusals.{refusal_of};
-ghost use Rattle.sise_tree.specs.Answers.{refused, indexed_as, parsed_as};
+ghost use Rattle.std.specs.Prelude.{◌≡◌, ◌≤◌, [], ◌∷◌, MatchResult};
 ghost use Rattle.sise_tree_writer.specs.Answers.{put_as};
 ghost use Rattle.sise_tree_writer.specs.Sizes.{measured_as};
-ghost use Rattle.sise_tree.specs.FindPath.{found_as};
-ghost use Rattle.sise_c.specs.Reports.{Reports, ReportsFound, size_or, ReportsEnquiry, size_given};
+ghost use Rattle.sise_c.specs.Reports.{Reports, refusal_words, size_or, ReportsEnquiry, size_given};
 
-use sise_parser::{ParseError, Refusal};
-use sise_tree::{Found, PathError, TreeError};
+use sise_parser::Refusal;
+use sise_tree::Found;
 use sise_tree_writer::{Measured, PutTree};
 
 // What a call answers beside its result.
@@ -20,49 +17,38 @@ pub type Size = [u64; 3];
 // How many calls of a list ran.
 pub type CallCount = [u64; 1];
 
-pub(crate) fn report_indexed(answer: Result<usize, PathError>, values: &mut Values) -> u32
-    ensures { Reports (indexed_as answer) result values.new }
+// The words are those of what is answered. The last two of a refusal are its place and code point, and others are 0.
+pub(crate) fn report<const N: usize, E: Refusal>(
+    answer: Result<[u64; N], E>,
+    words: &mut [u64; N],
+) -> u32
+    requires { 2 ≤ N }
+    ensures { MatchResult answer (λ told. (result ≡ 0) × (words.new ≡ told)) (λ e. (result ≡ (E.meaning e).number) × (words.new ≡ refusal_words N (E.meaning e))) }
 {
     match answer {
-        Ok(index) => {
-            *values = [index as u64, 0];
+        Ok(told) => {
+            *words = told;
             0
         }
         Err(error) => {
-            *values = [0, 0];
+            words.fill(0);
+            words[N - 2] = error.place() as u64;
+            words[N - 1] = u64::from(error.code());
             error.number()
         }
     }
 }
 
-pub(crate) fn report_found(answer: Result<Found, PathError>, values: &mut Values) -> u32
-    ensures { ReportsFound (found_as answer) result values.new }
+pub(crate) fn number_words(number: usize) -> Values
+    ensures { result ≡ number ∷ 0 ∷ [] }
 {
-    match answer {
-        Ok(found) => {
-            *values = [found.index as u64, found.seen as u64];
-            0
-        }
-        Err(error) => {
-            *values = [0, 0];
-            error.number()
-        }
-    }
+    [number as u64, 0]
 }
 
-pub(crate) fn report_parsed(answer: Result<usize, TreeError>, values: &mut Values) -> u32
-    ensures { Reports (parsed_as answer) result values.new }
+pub(crate) fn found_words(found: Found) -> Values
+    ensures { result ≡ found.index ∷ found.seen ∷ [] }
 {
-    match answer {
-        Ok(nodes) => {
-            *values = [nodes as u64, 0];
-            0
-        }
-        Err(error) => {
-            *values = [error.place() as u64, error.code() as u64];
-            error.number()
-        }
-    }
+    [found.index as u64, found.seen as u64]
 }
 
 pub(crate) fn report_measured(answer: Measured, size: &mut Size) -> u32
@@ -102,13 +88,4 @@ pub(crate) fn report_put(answer: PutTree, position: usize, values: &mut Values) 
     }
     *values = [0, 0];
     answer.number()
-}
-
-pub(crate) fn report_refused(error: ParseError, values: &mut Values) -> u32
-    ensures { Reports (refused (refusal_of error)) result values.new }
-{
-    let place = error.place();
-    let code = error.code();
-    *values = [place as u64, code as u64];
-    error.number()
 }

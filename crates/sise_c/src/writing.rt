@@ -1,16 +1,15 @@
 // The writer's calls one by one, over the words of a record that the caller keeps: position, phase (0 beginning, 1 writing, 2 finished, 3 done), open lists,
 // how many of them have a line break in them, whether the list is at its beginning (0 or 1), line length, spaces, breaks and indents.
-ghost use Rattle.std.specs.Prelude.{◌≡◌, cond, ◌<◌, ◌^◌, eqb, get_or};
-ghost use Rattle.std.proofs.Math.Option.{some};
+ghost use Rattle.std.specs.Prelude.{◌≡◌, ◌≤◌, ◌<◌, ◌^◌, get_or};
 ghost use Rattle.sise_serializer.specs.Calls.{put_atom_call, begin_list_call, end_list_call, finish_call};
 ghost use Rattle.sise_serializer.specs.Serializer.{style};
-ghost use Rattle.sise_c.specs.Kept.{writer_as};
-ghost use Rattle.sise_c.specs.Records.{writer_phase_word, flag_word, serializer_in, serializer_of, serializer_words};
+ghost use Rattle.sise_serializer.specs.Words.{call_at};
+ghost use Rattle.sise_c.specs.Records.{writer_phase, flag_of, serializer_of, serializer_words};
 ghost use Rattle.sise_c.specs.Reports.{Reports};
-ghost use Rattle.sise_c.specs.Singly.{word_answer, call_on};
+ghost use Rattle.sise_c.specs.Singly.{word_answer, call_on, Makes};
 
 use crate::report::Values;
-use sise_serializer::{Phase, Ran, Serializer, write_calls_from};
+use sise_serializer::{Phase, Serializer, write_calls_from};
 
 // A writer's record in words.
 pub type WriterWords = [u64; 9];
@@ -19,18 +18,37 @@ pub type WriterWords = [u64; 9];
 // make that slower. This is the word of 11, which stays where the record is unsound and no call runs.
 const UNSOUND: u64 = 4294967307;
 
-// The record that words mean, if they mean one.
-#[derive(Clone, Copy)]
-enum KeptWriter {
-    Is(Serializer),
-    Unsound,
+// The phase of this number, if it is one's.
+fn phase_of(word: u64) -> Option<Phase>
+    ensures { result ≡ writer_phase word }
+{
+    match word {
+        0 => Some(Phase::Beginning),
+        1 => Some(Phase::Writing),
+        2 => Some(Phase::Finished),
+        3 => Some(Phase::Done),
+        _ => None,
+    }
 }
 
-// The record of these words, whose flag is 0 or 1, in a phase.
-fn kept_in(words: &WriterWords, phase: Phase) -> KeptWriter
-    ensures { writer_as result ≡ serializer_in words.now (some phase) (some (eqb (get_or words.now 4 0) 1)) }
+fn flag_of(word: u64) -> Option<bool>
+    ensures { result ≡ flag_of word }
 {
-    KeptWriter::Is(Serializer {
+    match word {
+        0 => Some(false),
+        1 => Some(true),
+        _ => None,
+    }
+}
+
+// Words mean a record if the second is a phase and the fifth a flag.
+#[tactic(auto, unfolding(crate::specs::Records::serializer_of))]
+fn writer_of(words: &WriterWords) -> Option<Serializer>
+    ensures { result ≡ serializer_of words.now }
+{
+    let phase = phase_of(words[1])?;
+    let list_beginning = flag_of(words[4])?;
+    Some(Serializer {
         position: words[0] as usize,
         lists: words[2] as usize,
         broken: words[3] as usize,
@@ -39,59 +57,25 @@ fn kept_in(words: &WriterWords, phase: Phase) -> KeptWriter
         breaks: words[7] as usize,
         indents: words[8] as usize,
         phase,
-        list_beginning: words[4] == 1,
+        list_beginning,
     })
 }
 
-// Words mean a record if the second is a phase and the fifth a flag.
-fn writer_of(words: &WriterWords) -> KeptWriter
-    ensures { writer_as result ≡ serializer_of words.now }
-{
-    if 1 < words[4] {
-        return KeptWriter::Unsound;
-    }
-    let phase = words[1];
-    match phase {
-        0 => kept_in(words, Phase::Beginning),
-        1 => kept_in(words, Phase::Writing),
-        2 => kept_in(words, Phase::Finished),
-        3 => kept_in(words, Phase::Done),
-        _ => KeptWriter::Unsound,
-    }
-}
-
-fn phase_word(phase: Phase) -> u64
-    ensures { result ≡ writer_phase_word phase }
-{
-    match phase {
-        Phase::Beginning => 0,
-        Phase::Writing => 1,
-        Phase::Finished => 2,
-        Phase::Done => 3,
-    }
-}
-
-fn flag_word(flag: bool) -> u64
-    ensures { result ≡ flag_word flag }
-{
-    if flag { 1 } else { 0 }
-}
-
-fn put_writer(w: Serializer, words: &mut WriterWords)
-    ensures { words.new ≡ serializer_words w }
+fn writer_words(w: Serializer) -> WriterWords
+    ensures { result ≡ serializer_words w }
 {
     let phase = w.phase;
-    *words = [
+    [
         w.position as u64,
-        phase_word(phase),
+        phase as u64,
         w.lists as u64,
         w.broken as u64,
-        flag_word(w.list_beginning),
+        u64::from(w.list_beginning),
         w.line_len as u64,
         w.spaces as u64,
         w.breaks as u64,
         w.indents as u64,
-    ];
+    ]
 }
 
 // An answer's word, as the writer's lists of calls have it: the offset, or 2 ^ 32 and the refusal's number.
@@ -107,25 +91,33 @@ fn report_word(word: u64, values: &mut Values) -> u32
     (word - 4294967296) as u32
 }
 
-// A list of one call ran: the record that it left, and its answer's word.
-fn report_ran(ran: Ran, word: u64, record: &mut WriterWords, values: &mut Values) -> u32
-    requires { word < 2 ^ 33 }
-    ensures answer { Reports (word_answer word) result values.new }
-    ensures words { «record».new ≡ serializer_words ran.serializer }
+// Makes the call that four words mean, of an atom or of no bytes, with the record that a caller keeps.
+#[tactic(auto, unfolding(crate::specs::Singly::call_on, crate::specs::Singly::call_by))]
+fn make_call(
+    call: &[u64; 4],
+    atom: &[u8],
+    line_break: &[u8],
+    indentation: &[u8],
+    buf: &mut [u8],
+    record: &mut WriterWords,
+    values: &mut Values,
+) -> u32
+    requires { get_or call.now 0 0 ≤ 4 }
+    ensures { Makes (call_on (call_at call.now atom.now 0) (style line_break.now indentation.now) «record».old buf.old) result values.new «record».new buf.new }
 {
+    let Some(w) = writer_of(record) else {
+        *values = [0, 0];
+        return 11;
+    };
+    let mut answers = [UNSOUND];
+    let ran = write_calls_from(w, call, atom, line_break, indentation, buf, &mut answers);
     let after = ran.serializer;
-    put_writer(after, record);
-    report_word(word, values)
-}
-
-// finish's kind as a call of a list.
-fn finish_kind(final_break: bool) -> u64
-    ensures { result ≡ cond final_break 4 3 }
-{
-    if final_break { 4 } else { 3 }
+    *record = writer_words(after);
+    report_word(answers[0], values)
 }
 
 // Puts an atom. The first value is its offset.
+#[tactic(auto, using(crate::proofs::SinglyLaws::atom_kind))]
 pub fn sise_put_atom(
     line_break: &[u8],
     indentation: &[u8],
@@ -139,18 +131,12 @@ pub fn sise_put_atom(
     ensures words { «record».new ≡ (call_on (put_atom_call atom.now break_line_at) (style line_break.now indentation.now) «record».old buf.old).words }
     ensures bytes { buf.new ≡ (call_on (put_atom_call atom.now break_line_at) (style line_break.now indentation.now) «record».old buf.old).buffer }
 {
-    let kept = writer_of(record);
-    let KeptWriter::Is(w) = kept else {
-        *values = [0, 0];
-        return 11;
-    };
     let call = [0, 0, atom.len() as u64, break_line_at];
-    let mut answers = [UNSOUND];
-    let ran = write_calls_from(w, &call, atom, line_break, indentation, buf, &mut answers);
-    report_ran(ran, answers[0], record, values)
+    make_call(&call, atom, line_break, indentation, buf, record, values)
 }
 
 // Begins a list. The first value is the offset of its `(`.
+#[tactic(auto, unfolding(sise_serializer::specs::Words::call_of))]
 pub fn sise_begin_list(
     line_break: &[u8],
     indentation: &[u8],
@@ -163,18 +149,12 @@ pub fn sise_begin_list(
     ensures words { «record».new ≡ (call_on (begin_list_call break_line_at) (style line_break.now indentation.now) «record».old buf.old).words }
     ensures bytes { buf.new ≡ (call_on (begin_list_call break_line_at) (style line_break.now indentation.now) «record».old buf.old).buffer }
 {
-    let kept = writer_of(record);
-    let KeptWriter::Is(w) = kept else {
-        *values = [0, 0];
-        return 11;
-    };
     let call = [1, 0, 0, break_line_at];
-    let mut answers = [UNSOUND];
-    let ran = write_calls_from(w, &call, b"", line_break, indentation, buf, &mut answers);
-    report_ran(ran, answers[0], record, values)
+    make_call(&call, b"", line_break, indentation, buf, record, values)
 }
 
 // Ends the innermost open list. The first value is the offset of its `)`.
+#[tactic(auto, unfolding(sise_serializer::specs::Words::call_of))]
 pub fn sise_end_list(
     line_break: &[u8],
     indentation: &[u8],
@@ -186,18 +166,12 @@ pub fn sise_end_list(
     ensures words { «record».new ≡ (call_on end_list_call (style line_break.now indentation.now) «record».old buf.old).words }
     ensures bytes { buf.new ≡ (call_on end_list_call (style line_break.now indentation.now) «record».old buf.old).buffer }
 {
-    let kept = writer_of(record);
-    let KeptWriter::Is(w) = kept else {
-        *values = [0, 0];
-        return 11;
-    };
     let call = [2, 0, 0, 0];
-    let mut answers = [UNSOUND];
-    let ran = write_calls_from(w, &call, b"", line_break, indentation, buf, &mut answers);
-    report_ran(ran, answers[0], record, values)
+    make_call(&call, b"", line_break, indentation, buf, record, values)
 }
 
 // Ends the text, with a line break if wished. The first value is the text's end.
+#[tactic(auto, using(crate::proofs::SinglyLaws::finish_kind))]
 pub fn sise_finish_writing(
     line_break: &[u8],
     indentation: &[u8],
@@ -210,14 +184,6 @@ pub fn sise_finish_writing(
     ensures words { «record».new ≡ (call_on (finish_call final_break) (style line_break.now indentation.now) «record».old buf.old).words }
     ensures bytes { buf.new ≡ (call_on (finish_call final_break) (style line_break.now indentation.now) «record».old buf.old).buffer }
 {
-    let kind = finish_kind(final_break);
-    let kept = writer_of(record);
-    let KeptWriter::Is(w) = kept else {
-        *values = [0, 0];
-        return 11;
-    };
-    let call = [kind, 0, 0, 0];
-    let mut answers = [UNSOUND];
-    let ran = write_calls_from(w, &call, b"", line_break, indentation, buf, &mut answers);
-    report_ran(ran, answers[0], record, values)
+    let call = [3 + u64::from(final_break), 0, 0, 0];
+    make_call(&call, b"", line_break, indentation, buf, record, values)
 }
