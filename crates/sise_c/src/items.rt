@@ -7,7 +7,7 @@ ghost use Rattle.sise_tree.specs.Answers.{parsed_as};
 ghost use Rattle.sise_serializer.specs.Bytes.{pasted};
 ghost use Rattle.sise_c.specs.Items.{ending_by, items_of, ending_of, item_words, all_words, read_items};
 
-use sise_parser::{ParseError, ParsedItem, Reader, plain_item};
+use sise_parser::{ParseError, ParsedItem, Reader};
 use sise_tree::TreeError;
 
 // What the refusal that follows the items says: that they are all read, and then finish looks at the rest of the text, or why no more can be.
@@ -27,11 +27,6 @@ pub(crate) fn count_items(text: &[u8]) -> Result<usize, ParseError>
     let mut reader = Reader::new();
     let mut items = 0;
     loop {
-        if let Some(plain) = plain_item(text, reader) {
-            items += 1;
-            reader = plain.reader;
-            continue;
-        }
         let next = reader.next_item(text);
         match next.answer {
             Ok(_) => {
@@ -75,12 +70,6 @@ pub(crate) fn fill_items(text: &[u8], words: &mut [u64])
     let mut reader = Reader::new();
     let mut items = 0;
     loop {
-        if let Some(plain) = plain_item(text, reader) {
-            put_item(words, items, plain.item);
-            items += 1;
-            reader = plain.reader;
-            continue;
-        }
         let next = reader.next_item(text);
         let Ok(item) = next.answer else {
             return;

@@ -1,7 +1,6 @@
 pub mod Refusals
 pub mod Lexer
 pub mod Plain
-pub mod PlainItems
 pub mod Reader
 pub mod Phases
 pub mod Meaning

@@ -6,6 +6,7 @@ ghost use Rattle.sise_parser.specs.Meaning.{lexeme_as, answer_as, next_as, finis
 
 use crate::error::ParseError;
 use crate::lexer::{Lexeme, Token, get_token, skip_blanks};
+use crate::plain::plain_item;
 
 // Where the reader is in the text: before the first item, inside the outermost list, or after the last item.
 #[derive(Clone, Copy, Debug, PartialEq, Eq)]
@@ -69,7 +70,8 @@ fn lists_fit(phase: Phase, lists: usize) -> bool
 }
 
 // What next_item hands back, from the record's parts, which are handed over one by one since that is faster than a struct.
-fn answered(
+#[inline(always)]
+pub(crate) fn answered(
     position: usize,
     phase: Phase,
     lists: usize,
@@ -169,34 +171,22 @@ impl Reader {
     }
 
     // Whether the record is one that a reader of a text of `len` bytes may have.
-    fn is_sound(self, len: usize) -> bool
+    pub(crate) fn is_sound(self, len: usize) -> bool
         ensures { result ≡ is_sound len self }
     {
         self.position <= len && self.lists <= self.position && lists_fit(self.phase, self.lists)
     }
 
-    // The next item of the text. The record that comes back is for the next call, after a refusal too. A bracket right at the position is found here, in few
-    // steps, so that the call costs nothing in a loop.
+    // The next item of the text. The record that comes back is for the next call, after a refusal too. A plain item is found without the lexer, so that the
+    // call costs little in a loop.
+    #[inline(always)]
     pub fn next_item(self, text: &[u8]) -> Next
         ensures { next_as result ≡ next_item text.now self }
     {
-        let position = self.position;
-        let phase = self.phase;
-        let lists = self.lists;
-        if let Phase::Parsing = phase {
-            if position < text.len() && lists <= position && 1 < lists {
-                let byte = text[position];
-                if byte == b'(' {
-                    let start = ParsedItem::ListStart { pos: position };
-                    return answered(position + 1, Phase::Parsing, lists + 1, Ok(start));
-                }
-                if byte == b')' {
-                    let end = ParsedItem::ListEnd { pos: position };
-                    return answered(position + 1, Phase::Parsing, lists - 1, Ok(end));
-                }
-            }
+        match plain_item(text, self) {
+            Some(next) => next,
+            None => item_ahead(self.position, self.phase, self.lists, text),
         }
-        item_ahead(position, phase, lists, text)
     }
 
     // Whether the text ends after the last item.

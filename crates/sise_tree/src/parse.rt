@@ -4,12 +4,10 @@ ghost use Rattle.sise_tree.specs.Tree.{kind_at};
 ghost use Rattle.sise_tree.specs.Answers.{tree_refusal};
 ghost use Rattle.sise_tree.specs.declared.parse.TreeError.TheVariants.{Refused};
 ghost use Rattle.sise_tree.specs.ParseTree.{read_node, parse_tree, DoesParse};
-ghost use Rattle.sise_tree.specs.Filling.{DoesCount, CountsOn, mark, put_at, CanAttach, Attaches, CanClose, Closes, CanPut, Puts, CanTurn, Turns, CanStart, Starts, CanFill, DoesFill, CanFillOn, FillsOn};
+ghost use Rattle.sise_tree.specs.Filling.{DoesCount, mark, put_at, CanAttach, Attaches, CanClose, Closes, CanPut, Puts, CanTurn, Turns, CanStart, Starts, CanFill, DoesFill};
 
 use crate::tree::{LONGEST, wide};
-use sise_parser::{
-    ParseError, ParsedItem, Reader, Refusal, atom_run, is_quote_at, item_ahead, skip_blanks,
-};
+use sise_parser::{ParseError, ParsedItem, Reader, Refusal};
 use sise_util::{check_atom_prefix, kind_number};
 
 // Why no tree is read.
@@ -66,58 +64,6 @@ pub struct TreeRead {
     pub answer: Result<usize, TreeError>,
 }
 
-// Where the counting stands: the reader's position, how many of the node's lists are open, and how many nodes there were.
-#[derive(Clone, Copy)]
-struct Counted {
-    position: usize,
-    depth: usize,
-    nodes: usize,
-}
-
-// Counts on while the tokens are plain: a `(`, a `)` that does not end the node, or an atom without strings. Any other is left to item_ahead.
-fn count_plain(text: &[u8], before: Counted) -> Counted
-    requires { (before.depth ≤ before.nodes) × (before.nodes ≤ before.position) }
-    ensures on { CountsOn text.now before result }
-    ensures after { before.position ≤ result.position }
-{
-    if before.depth == 0 {
-        return before;
-    }
-    let mut position = before.position;
-    let mut depth = before.depth;
-    let mut nodes = before.nodes;
-    loop {
-        let start = skip_blanks(text, position);
-        if text.len() <= start {
-            break;
-        }
-        let byte = text[start];
-        if byte == b'(' {
-            position = start + 1;
-            depth += 1;
-            nodes += 1;
-        } else if byte == b')' {
-            if depth == 1 {
-                break;
-            }
-            position = start + 1;
-            depth -= 1;
-        } else {
-            let end = atom_run(text, start);
-            if end == start || is_quote_at(text, end) {
-                break;
-            }
-            position = end;
-            nodes += 1;
-        }
-    }
-    Counted {
-        position,
-        depth,
-        nodes,
-    }
-}
-
 // Reads the node that is due and counts its nodes.
 pub(crate) fn count_nodes(text: &[u8], reader: Reader) -> TreeRead
     ensures { DoesCount (read_node text.now reader) result }
@@ -126,17 +72,7 @@ pub(crate) fn count_nodes(text: &[u8], reader: Reader) -> TreeRead
     let mut depth: usize = 0;
     let mut nodes: usize = 0;
     let answer = loop {
-        let run = count_plain(
-            text,
-            Counted {
-                position: r.position,
-                depth,
-                nodes,
-            },
-        );
-        depth = run.depth;
-        nodes = run.nodes;
-        let next = item_ahead(run.position, r.phase, reader.lists + depth, text);
+        let next = r.next_item(text);
         r = next.reader;
         let item = match next.answer {
             Ok(item) => item,
@@ -268,62 +204,6 @@ fn put_item(text: &[u8], table: &mut [u32], mark: Mark, item: ParsedItem, end: u
     }
 }
 
-// Where the filling and its reader stand: the position, how many of the node's lists are open, and the mark's fields.
-#[derive(Clone, Copy)]
-struct Filled {
-    position: usize,
-    depth: usize,
-    next: u32,
-    parent: u32,
-}
-
-// Writes on while the tokens are plain, as count_plain counts.
-fn fill_plain(text: &[u8], table: &mut [u32], before: Filled) -> Filled
-    requires { CanFillOn text.now table.old before }
-    ensures on { FillsOn text.now table.old before result table.new }
-    ensures after { before.position ≤ result.position }
-{
-    let mut position = before.position;
-    let mut depth = before.depth;
-    let mut next = before.next;
-    let mut parent = before.parent;
-    loop {
-        let start = skip_blanks(text, position);
-        if text.len() <= start {
-            break;
-        }
-        let byte = text[start];
-        if byte == b'(' {
-            put_start(table, next, parent);
-            position = start + 1;
-            depth += 1;
-            parent = next;
-            next += 1;
-        } else if byte == b')' {
-            if depth == 1 {
-                break;
-            }
-            parent = close_list(table, next, parent);
-            position = start + 1;
-            depth -= 1;
-        } else {
-            let end = atom_run(text, start);
-            if end == start || is_quote_at(text, end) {
-                break;
-            }
-            put_atom(table, next, parent, 1, start, end);
-            position = end;
-            next += 1;
-        }
-    }
-    Filled {
-        position,
-        depth,
-        next,
-        parent,
-    }
-}
-
 // Reads a node again, which is known to be one and to have room, and writes its words.
 pub(crate) fn fill_nodes(text: &[u8], reader: Reader, table: &mut [u32])
     requires { CanFill text.now reader table.old }
@@ -332,7 +212,7 @@ pub(crate) fn fill_nodes(text: &[u8], reader: Reader, table: &mut [u32])
     let mut r = reader;
     let mut mark = Mark { next: 0, parent: 0 };
     loop {
-        let next = item_ahead(r.position, r.phase, r.lists, text);
+        let next = r.next_item(text);
         r = next.reader;
         let Ok(item) = next.answer else {
             return;
@@ -341,25 +221,6 @@ pub(crate) fn fill_nodes(text: &[u8], reader: Reader, table: &mut [u32])
         if r.lists == reader.lists {
             return;
         }
-        let run = fill_plain(
-            text,
-            table,
-            Filled {
-                position: r.position,
-                depth: r.lists - reader.lists,
-                next: mark.next,
-                parent: mark.parent,
-            },
-        );
-        mark = Mark {
-            next: run.next,
-            parent: run.parent,
-        };
-        r = Reader {
-            position: run.position,
-            phase: r.phase,
-            lists: reader.lists + run.depth,
-        };
     }
 }
 
