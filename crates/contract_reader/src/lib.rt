@@ -3,15 +3,16 @@
 // three calls of Parser stand in sise_parser.
 #![tactic(auto)]
 
-ghost use Rattle.std.specs.Prelude.{◌≡◌, ◌≤◌, eqb, drop, get_or};
+ghost use Rattle.std.specs.Prelude.{◌≡◌, ◌≤◌, ◌↔◌, true, eqb, length, drop, get_or, IfSome, IsSome};
 ghost use Rattle.sise_parser.specs.Refusals.{refusal_of};
 ghost use Rattle.sise_parser.specs.Lexer.{between};
 ghost use Rattle.sise_parser.specs.Plain.{skip_blanks, atom_run, AtomTo};
-ghost use Rattle.sise_parser.specs.Reader.{fresh_reader, next_item, finish_reading, part_of, reader};
+ghost use Rattle.sise_parser.specs.Reader.{fresh_reader, is_sound, next_item, finish_reading, part_of, next, reader, item as answer_item};
+ghost use Rattle.sise_parser.specs.PlainItems.{IsPlain};
 ghost use Rattle.sise_parser.specs.Phases.{ReadsPhase};
 ghost use Rattle.sise_parser.specs.Meaning.{next_as, finished_as};
 
-use sise_parser::{Next, ParseError, Phase, Reader, UnknownPhase};
+use sise_parser::{Next, ParseError, Phase, PlainItem, Reader, Refusal, UnknownPhase};
 
 // ---- reader.rt
 
@@ -82,6 +83,16 @@ pub fn is_quote_at(text: &[u8], at: usize) -> bool
     ensures { result ≡ eqb (get_or text.now at 0) 34 }
 {
     sise_parser::is_quote_at(text, at)
+}
+
+// ---- plain.rt
+
+// The next item, if it is a `(`, a `)` that does not end the outermost list, or an atom without strings, and the record for the next call.
+pub fn plain_item(text: &[u8], reader: Reader) -> Option<PlainItem>
+    ensures when { IsSome result ↔ (is_sound (length text.now) reader ≡ true) × IsPlain text.now reader }
+    ensures item { IfSome result (λ p. next p.reader (answer_item p.item) ≡ next_item text.now reader) }
+{
+    sise_parser::plain_item(text, reader)
 }
 
 // ---- error.rt

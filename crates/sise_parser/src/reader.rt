@@ -70,8 +70,7 @@ fn lists_fit(phase: Phase, lists: usize) -> bool
 }
 
 // What next_item hands back, from the record's parts, which are handed over one by one since that is faster than a struct.
-#[inline(always)]
-pub(crate) fn answered(
+fn answered(
     position: usize,
     phase: Phase,
     lists: usize,
@@ -184,7 +183,10 @@ impl Reader {
         ensures { next_as result ≡ next_item text.now self }
     {
         match plain_item(text, self) {
-            Some(next) => next,
+            Some(plain) => Next {
+                reader: plain.reader,
+                answer: Ok(plain.item),
+            },
             None => item_ahead(self.position, self.phase, self.lists, text),
         }
     }

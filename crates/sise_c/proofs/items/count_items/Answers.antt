@@ -8,17 +8,26 @@ use Rattle.sise_parser.specs.declared.error.ParseError.{ParseError}
 use Rattle.sise_c.proofs.ItemLaws.{gave_item, gave_refusal, falls, fewer, counts_none, counts_more, counts_all, counts_ends}
 use Rattle.sise_c.proofs.items.count_items.Goals as goal
 
-pub loop-items-init : goal.loop-items-init
-loop-items-init c = counts_none _ c.new-reader.ensures
+pub loop-plain-init : goal.loop-plain-init
+loop-plain-init c = counts_none _ c.new-reader.ensures
 
 pub overflow_add-items : goal.overflow_add-items
-overflow_add-items c = let n = fewer _ c.loop-items.invariant.reached (gave_item _ _ c.next_item-next.ensures c.in-Ok.is) in search rules
+overflow_add-items c = let n = fewer _ c.loop-plain.invariant.reached (sym c.in-Some.ensures.item) in search rules
 
-pub loop-items-smaller : goal.loop-items-smaller
-loop-items-smaller c = falls _ c.loop-items.invariant.reached (gave_item _ _ c.next_item-next.ensures c.in-Ok.is) (omega arith)
+pub loop-plain-smaller-in-Some : goal.loop-plain-smaller-in-Some
+loop-plain-smaller-in-Some c = falls _ c.loop-plain.invariant.reached (sym c.in-Some.ensures.item) (omega arith)
 
-pub loop-items-preserved : goal.loop-items-preserved
-loop-items-preserved c = counts_more _ c.loop-items.invariant (gave_item _ _ c.next_item-next.ensures c.in-Ok.is)
+pub loop-plain-preserved-in-Some : goal.loop-plain-preserved-in-Some
+loop-plain-preserved-in-Some c = counts_more _ c.loop-plain.invariant (sym c.in-Some.ensures.item)
+
+pub overflow_add-items-in-Ok : goal.overflow_add-items-in-Ok
+overflow_add-items-in-Ok c = let n = fewer _ c.loop-plain.invariant.reached (gave_item _ _ c.next_item-next.ensures c.in-Ok.is) in search rules
+
+pub loop-plain-smaller : goal.loop-plain-smaller
+loop-plain-smaller c = falls _ c.loop-plain.invariant.reached (gave_item _ _ c.next_item-next.ensures c.in-Ok.is) (omega arith)
+
+pub loop-plain-preserved : goal.loop-plain-preserved
+loop-plain-preserved c = counts_more _ c.loop-plain.invariant (gave_item _ _ c.next_item-next.ensures c.in-Ok.is)
 
 counted : {m : ℕ} {x : Ending} (f : Result (Unit {0}) ParseError) {r : Result ℕ ParseError} {n : ℕ} → n ≡ m → finished_as f ≡ x → r ≡ result_and f (Ok n)
     → MatchResult r (λ k. (k ≡ m) × (x ≡ ended)) (λ e. x ≡ not_ended (refusal_of e))
@@ -28,4 +37,4 @@ counted (Err x) d z e = rw e (sym z)
 pub returns-in-Err : goal.returns-in-Err
 returns-in-Err c =
     let e = gave_refusal _ _ c.next_item-next.ensures c.in-Err.is in
-    counted c.ending_by.result (counts_all _ c.loop-items.invariant e) (c.ending_by.ensures ∙ counts_ends _ c.loop-items.invariant e) c.and.ensures
+    counted c.ending_by.result (counts_all _ c.loop-plain.invariant e) (c.ending_by.ensures ∙ counts_ends _ c.loop-plain.invariant e) c.and.ensures
