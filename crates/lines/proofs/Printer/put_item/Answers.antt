@@ -1,10 +1,9 @@
--- `put_item` meets its contract: each kind of item has its letter and numbers.
-use mathlib.Core.Path.{◌≡◌, sym, ap, ◌∙◌}
-use mathlib.Core.List.{◌∷◌}
-use Rattle.lines.specs.Put.{Output, put, number, item_text}
+-- Each kind of item has its letter and numbers.
+use Rattle.std.proofs.Common.{◌≡◌, ◌∙◌, ◌∷◌, sym, ap}
 use Rattle.sise_parser.specs.declared.reader.ParsedItem.{ParsedItem}
+use Rattle.lines.specs.Put.{Output, put, number, item_text}
 use Rattle.lines.proofs.Laws.{put_both}
-use Rattle.lines.proofs.item.put_item.Goals as goal
+use Rattle.lines.proofs.Printer.put_item.Goals as goal
 
 -- what is put for the item that it is
 put_as_lem : {i j : ParsedItem} {p : Output} (o : Output) → i ≡ j → p ≡ put o (item_text j) → p ≡ put o (item_text i)
@@ -19,7 +18,7 @@ unfolding item_text
 returns-in-Atom c =
     put_as_lem _
     c.in-Atom.is
-    (put_both _ (_ ∷ number _) (number _) c.put_letter-at.ensures c.put_number.ensures)
+    (put_both _ (_ ∷ number _) (number _) c.put_letter-in-Atom.ensures c.put_number.ensures)
 
 pub returns-in-ListEnd : goal.returns-in-ListEnd
 unfolding item_text
