@@ -1,0 +1,26 @@
+-- Laws of reading on in a script: what was read twice is the one front behind the other.
+use Rattle.std.proofs.Common.{◌≡◌, ◌∙◌, sym, ap, subst, List, [], ◌∷◌, ◌++◌, ℕ, arith, append_assoc, length-append}
+use Rattle.script.specs.Onward.{Onward}
+use Rattle.script.specs.Script.{CallFrom}
+use Rattle.script.specs.declared.Call.{Call}
+
+pub onward_both : {s t u : List ℕ} → Onward s t → Onward t u → Onward s u
+onward_both {s} {t} {u} p q = record {
+  front = p.front ++ q.front;
+  some = (let l = p.some in rw length-append (omega arith));
+  joined = p.joined ∙ ap (λ (x : List ℕ). p.front ++ x) q.joined ∙ sym (append_assoc p.front q.front u);
+}
+
+pub onward_byte : {s t : List ℕ} (byte : ℕ) → s ≡ byte ∷ t → Onward s t
+onward_byte byte e = record { front = byte ∷ []; some = omega arith; joined = e }
+
+-- the rest in other words
+pub onward_as : {s t u : List ℕ} → Onward s t → t ≡ u → Onward s u
+onward_as {s} p e = subst (Onward s) e p
+
+-- so is a call behind its letter
+pub call_after : {s t : List ℕ} (u : List ℕ) (call : Call) → Onward s t → CallFrom t u call → CallFrom s u call
+call_after u (Call.PutAtom atom n) p q = onward_both p q
+call_after u (Call.BeginList n) p q = onward_both p q
+call_after u Call.EndList p q = onward_both p q
+call_after u (Call.Finish b) p q = onward_both p q
