@@ -1,5 +1,5 @@
 -- Laws of reading on in a script: what was read twice is the one front behind the other.
-use Rattle.std.proofs.Common.{◌≡◌, ◌∙◌, sym, ap, subst, List, [], ◌∷◌, ◌++◌, ℕ, arith, append_assoc, length-append}
+use Rattle.std.proofs.Common.{◌≡◌, ◌∙◌, refl, sym, ap, subst, List, [], ◌∷◌, ◌++◌, ℕ, arith, append_assoc, length-append}
 use Rattle.script.specs.Onward.{Onward}
 use Rattle.script.specs.Script.{CallFrom}
 use Rattle.script.specs.declared.Call.{Call}
@@ -24,3 +24,8 @@ call_after u (Call.PutAtom atom n) p q = onward_both p q
 call_after u (Call.BeginList n) p q = onward_both p q
 call_after u Call.EndList p q = onward_both p q
 call_after u (Call.Finish b) p q = onward_both p q
+
+-- what stands behind some bytes and the line end after them is read behind them
+pub onward_past : {s : List ℕ} (text u : List ℕ) → Onward s (text ++ 10 ∷ u) → Onward s u
+onward_past [] u p = onward_both p (onward_byte 10 refl)
+onward_past {s} (b ∷ text) u p = onward_past {s = s} text u (onward_both p (onward_byte b refl))
