@@ -8,7 +8,7 @@ ghost use Rattle.lines.specs.Put.{put};
 ghost use Rattle.items.specs.Last.{refused_line, last_line};
 
 use lines::Printer;
-use sise_parser::{ParseError, Phase, Reader};
+use sise_parser::{ParseError, Phase, Reader, Refusal};
 
 fn put_refused(out: &mut Printer, error: ParseError)
     ensures { out.new ≡ put out.old (refused_line error) }

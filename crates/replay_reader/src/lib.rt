@@ -4,13 +4,16 @@
 ghost use Rattle.std.specs.Prelude.{◌≡◌, OnOk};
 ghost use Rattle.script.specs.Onward.{Onward};
 ghost use Rattle.lines.specs.Put.{put};
-ghost use Rattle.replay_reader.specs.Text.{reader_text};
+ghost use Rattle.replay_reader.specs.Text.{reader_text, refusal_text};
 
 use lines::Printer;
 use script::{Malformed, Script, TextCase};
-use sise_parser::{Next, ParseError, ParsedItem, Reader, atom_bytes};
+use sise_parser::{Next, ParseError, ParsedItem, Reader, Refusal, atom_bytes};
 
-fn put_error(out: &mut Printer, error: ParseError) {
+// A refusal: its number, its place and its code point.
+pub fn put_refusal<E: Refusal>(out: &mut Printer, error: E)
+    ensures { out.new ≡ put out.old (refusal_text (E.meaning error)) }
+{
     out.put_letter(b'!', error.number() as usize);
     out.put_number(error.place());
     out.put_number(error.code() as usize);
@@ -30,7 +33,7 @@ pub fn put_reader(out: &mut Printer, reader: Reader)
 fn put_call(out: &mut Printer, text: &[u8], next: Next) {
     match next.answer {
         Ok(item) => out.put_item(item),
-        Err(error) => put_error(out, error),
+        Err(error) => put_refusal(out, error),
     }
     put_reader(out, next.reader);
     if let Ok(ParsedItem::Atom { pos, len }) = next.answer {
@@ -44,7 +47,7 @@ fn put_call(out: &mut Printer, text: &[u8], next: Next) {
 fn put_finished(out: &mut Printer, finished: Result<(), ParseError>) {
     match finished {
         Ok(()) => out.put_bytes(b"ok"),
-        Err(error) => put_error(out, error),
+        Err(error) => put_refusal(out, error),
     }
     out.put_byte(b'\n');
 }
