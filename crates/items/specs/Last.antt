@@ -1,6 +1,6 @@
 -- The last line that the program items prints.
 -- Assumes nothing.
-use Rattle.std.specs.Prelude.{Result, Ok, Err, List, [], ◌∷◌, ◌++◌, ℕ}
+use Rattle.std.specs.Prelude.{List, [], ◌∷◌, ◌++◌, ℕ, Result, Ok, Err}
 use Rattle.sise_parser.specs.Refusals.{refusal_of}
 use Rattle.sise_parser.specs.declared.error.ParseError.{ParseError}
 use Rattle.lines.specs.Put.{number}
@@ -11,5 +11,5 @@ refused_line e = 114 ∷ 101 ∷ 102 ∷ 117 ∷ 115 ∷ 101 ∷ 100 ∷ (number
 
 -- `ok`, or the refusal
 unfoldable pub last_line : Result (Unit {0}) ParseError → List ℕ
-last_line (Ok u) = 111 ∷ 107 ∷ 10 ∷ []
+last_line (Ok _) = 111 ∷ 107 ∷ 10 ∷ []
 last_line (Err e) = refused_line e

@@ -1,6 +1,5 @@
--- `put_finished` meets its contract: the line of the answer that it is.
-use mathlib.Core.Path.{◌≡◌, sym, ap, ◌∙◌}
-use Rattle.std.specs.Prelude.{Result}
+-- The line is that of the answer that it is.
+use Rattle.std.proofs.Common.{◌≡◌, ◌∙◌, sym, ap, Result}
 use Rattle.sise_parser.specs.declared.error.ParseError.{ParseError}
 use Rattle.lines.specs.Put.{Output, put}
 use Rattle.items.specs.Last.{last_line}
