@@ -3,9 +3,9 @@
 // to refuse it.
 #![tactic(auto)]
 
-ghost use Rattle.std.specs.Prelude.{◌≡◌, ◌+◌, ◌*◌};
-ghost use Rattle.sise_serializer.specs.Bytes.{pasted_if};
-ghost use Rattle.sise_serializer.specs.Parts.{spot_of};
+ghost use Rattle.std.specs.Prelude.{◌≡◌, ◌+◌, ◌*◌, ◌≤◌, length};
+ghost use Rattle.sise_serializer.specs.Bytes.{pasted, pasted_if};
+ghost use Rattle.sise_serializer.specs.Parts.{spot_of, gap_bytes, break_bytes};
 ghost use Rattle.sise_serializer.specs.Serializer.{style_of, new_line_of, answer_as};
 ghost use Rattle.sise_serializer.specs.Words.{answer_word, has_call, Runs, RunsFrom};
 
@@ -82,4 +82,19 @@ pub fn paste_line(buf: &mut [u8], at: usize, style: SerializerStyle<'_>, times: 
     ensures { buf.new ≡ pasted_if buf.old at (new_line_of (style_of style.entry) times) }
 {
     sise_serializer::paste_line(buf, at, style, times);
+}
+
+// The space before an item that stays in its line, unless it joins what is before it.
+pub fn write_gap(buf: &mut [u8], at: usize, joins: bool)
+    requires { at + length (gap_bytes joins) ≤ length buf.old }
+    ensures { buf.new ≡ pasted buf.old at (gap_bytes joins) }
+{
+    sise_serializer::write_gap(buf, at, joins);
+}
+
+// What ends a text: the line break, if wished.
+pub fn final_break<'a>(style: SerializerStyle<'a>, wished: bool) -> &'a [u8]
+    ensures { result.now ≡ break_bytes wished style.entry.line_break.now }
+{
+    style.final_break(wished)
 }

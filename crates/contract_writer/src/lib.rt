@@ -3,13 +3,14 @@
 // contract has to refuse it.
 #![tactic(auto)]
 
-ghost use Rattle.std.specs.Prelude.{◌≡◌};
+ghost use Rattle.std.specs.Prelude.{◌≡◌, false, MatchOption};
 ghost use Rattle.sise_serializer.specs.Serializer.{fresh_serializer, style_of, is_sound, answer_as, number_of, phase_after};
 ghost use Rattle.sise_serializer.specs.Phases.{DecodesPhase};
 ghost use Rattle.sise_serializer.specs.Calls.{Does, put_atom_call, begin_list_call, end_list_call, finish_call};
 
 use sise_serializer::{
-    Phase, Serializer, SerializerStyle, UnknownPhase, WriteError, Wrote, answer_number,
+    Phase, Serializer, SerializerStyle, SoundSerializer, UnknownPhase, WriteError, Wrote,
+    answer_number,
 };
 
 // A writer before the first item, at the start of its buffer.
@@ -24,6 +25,13 @@ pub fn is_sound(serializer: Serializer) -> bool
     ensures { result ≡ is_sound serializer }
 {
     serializer.is_sound()
+}
+
+// A record with the knowledge that it is sound, if it is.
+pub fn sound(serializer: Serializer) -> Option<SoundSerializer>
+    ensures { MatchOption result (is_sound serializer ≡ false) (λ w. w.serializer ≡ serializer) }
+{
+    serializer.sound()
 }
 
 // Puts an atom. In a list it goes on a new line if the line is at least `break_line_at` bytes long.

@@ -25,7 +25,7 @@ use Rattle.sise_serializer.specs.declared.serializer.Serializer.{Serializer}
 use Rattle.sise_serializer.specs.declared.buffer.Spot.{Spot}
 use Rattle.sise_serializer.specs.declared.serializer.WriteError.{WriteError}
 use Rattle.sise_serializer.proofs.Bytes.{pasted_none, pasted_behind}
-use Rattle.sise_serializer.proofs.Spots.{Found, found, not_found}
+use Rattle.sise_serializer.proofs.Spots.{Found, found_ok, not_found_err}
 
 -- ---- refusals and pieces
 
@@ -37,7 +37,7 @@ module _ (w : Serializer) (before : List ℕ) where
   module _ (b : Piece) {r : Result Spot WriteError} (h : r ≡ spot_or_full (length before) w.position (length b.layout) (length b.token)) where
     -- the spot of a piece with room
     pub spotted : {s : Spot} → r ≡ Ok s → Found (length before) w.position (length b.layout) (length b.token) s
-    spotted t = found (length before) w.position (length b.layout) (length b.token) (sym h ∙ t)
+    spotted t = found_ok (length before) w.position (length b.layout) (length b.token) (sym h ∙ t)
 
     -- a piece with room
     pub placed : {s : Spot} {v : Serializer} {now : List ℕ} → r ≡ Ok s
@@ -61,7 +61,7 @@ module _ (w : Serializer) (before : List ℕ) where
     pub full : {e : WriteError} (x : Result Placed WriteError) → r ≡ Err e → IsErrAnd x (λ d. d ≡ e) → Places b w before x before
     unfolding place
     full x t q =
-        let n = not_found (length before) w.position (length b.layout) (length b.token) (sym h ∙ t) in
+        let n = not_found_err (length before) w.position (length b.layout) (length b.token) (sym h ∙ t) in
         let p = err_from_is_err_and x q in
         rw (n.0, p.1, p.2, ← n.1)
         (refused_does 22 refl)

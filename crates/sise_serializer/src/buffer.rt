@@ -14,6 +14,15 @@ pub struct SerializerStyle<'a> {
     pub indentation: &'a [u8],
 }
 
+impl<'a> SerializerStyle<'a> {
+    // What ends a text: the line break, if wished.
+    pub fn final_break(self, wished: bool) -> &'a [u8]
+        ensures { result.now ≡ break_bytes wished self.entry.line_break.now }
+    {
+        if wished { self.line_break } else { b"" }
+    }
+}
+
 // A token's place: its first byte and its end.
 #[derive(Clone, Copy, Debug, PartialEq, Eq)]
 pub struct Spot {
@@ -109,20 +118,13 @@ pub(crate) fn write_line(
 }
 
 // The space before an item that stays in its line, unless it joins what is before it.
-pub(crate) fn write_gap(buf: &mut [u8], at: usize, joins: bool)
+pub fn write_gap(buf: &mut [u8], at: usize, joins: bool)
     requires { at + length (gap_bytes joins) ≤ length buf.old }
     ensures { buf.new ≡ pasted buf.old at (gap_bytes joins) }
 {
     if !joins {
         buf[at] = 32;
     }
-}
-
-// What ends the text: the line break, if wished.
-pub(crate) fn break_bytes(style: SerializerStyle<'_>, wished: bool) -> &[u8]
-    ensures { result.now ≡ break_bytes wished style.entry.line_break.now }
-{
-    if wished { style.line_break } else { b"" }
 }
 
 // ---- for callers in other crates: bytes are copied where they have room, and nothing otherwise

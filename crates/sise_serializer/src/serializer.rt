@@ -7,9 +7,7 @@ ghost use Rattle.sise_serializer.specs.Calls.{Does, put_atom_call, begin_list_ca
 ghost use Rattle.sise_serializer.specs.Parts.{wrote_of, Makes, Places, PutsItem, first_item, in_line, gap_bytes, spot_or_full};
 ghost use Rattle.sise_serializer.specs.Phases.{DecodesPhase};
 
-use crate::buffer::{
-    LIMIT, SerializerStyle, Spot, break_bytes, copy, find_spot, write_gap, write_line,
-};
+use crate::buffer::{LIMIT, SerializerStyle, Spot, copy, find_spot, write_gap, write_line};
 use crate::sound_serializer::SoundSerializer;
 use crate::token::{Atom, ListStart, Token};
 use sise_util::check_atom;
@@ -154,7 +152,7 @@ impl Serializer {
     }
 
     // The record with the knowledge that it is sound.
-    pub(crate) fn sound(self) -> Option<SoundSerializer>
+    pub fn sound(self) -> Option<SoundSerializer>
         ensures { MatchOption result (is_sound self ≡ false) (λ w. w.serializer ≡ self) }
     {
         if self.is_sound() {
@@ -512,7 +510,7 @@ fn last(
     ensures { Places (last (style_of style.entry) w.serializer insert_line_break) w.serializer buf.old result buf.new }
 {
     let w = w.serializer;
-    let line_break = break_bytes(style, insert_line_break);
+    let line_break = style.final_break(insert_line_break);
     let spot = find(w, buf, line_break.len(), 0, 0, 0)?;
     copy(buf, w.position, line_break);
     let serializer = Serializer {

@@ -5,7 +5,7 @@ ghost use Rattle.sise_serializer.specs.Serializer.{is_sound};
 use crate::serializer::Serializer;
 
 #[derive(Clone, Copy)]
-pub(crate) struct SoundSerializer {
-    pub(crate) serializer: Serializer,
+pub struct SoundSerializer {
+    pub serializer: Serializer,
     ghost sound: { is_sound serializer ≡ true },
 }

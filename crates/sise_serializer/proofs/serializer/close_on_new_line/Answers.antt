@@ -13,7 +13,7 @@ use Rattle.sise_serializer.specs.declared.serializer.Serializer.{Serializer}
 use Rattle.sise_serializer.specs.declared.serializer.WriteError.{WriteError}
 use Rattle.sise_serializer.proofs.Bytes.{layout_length, pasted_one}
 use Rattle.sise_serializer.proofs.Sound.{small}
-use Rattle.sise_serializer.proofs.Spots.{spot_as}
+use Rattle.sise_serializer.proofs.Spots.{find_as}
 use Rattle.sise_serializer.proofs.Does.{spotted, placed_behind, full}
 use Rattle.sise_serializer.proofs.serializer.close_on_new_line.Goals as goal
 
@@ -22,7 +22,7 @@ spot : (w : Serializer) (s : Style) (buf : List ℕ) {r : Result Spot WriteError
     → r ≡ spot_or_full (length buf) w.position (length s.line_break + (w.lists - 1) * length s.indentation) 1
     → r ≡ spot_or_full (length buf) w.position (length (close_as s w true).layout) (length (close_as s w true).token)
 unfolding close_as
-spot w s buf h = spot_as _ _ h (sym (layout_length s.line_break (w.lists - 1) s.indentation)) refl
+spot w s buf h = find_as _ _ h (sym (layout_length s.line_break (w.lists - 1) s.indentation)) refl
 
 pub returns-in_err-spot : goal.returns-in_err-spot
 returns-in_err-spot c =

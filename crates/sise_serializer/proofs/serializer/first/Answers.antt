@@ -11,7 +11,7 @@ use Rattle.sise_serializer.specs.Parts.{first_item, spot_or_full}
 use Rattle.sise_serializer.specs.declared.buffer.Spot.{Spot}
 use Rattle.sise_serializer.specs.declared.serializer.Serializer.{Serializer}
 use Rattle.sise_serializer.specs.declared.serializer.WriteError.{WriteError}
-use Rattle.sise_serializer.proofs.Spots.{spot_as}
+use Rattle.sise_serializer.proofs.Spots.{find_as}
 use Rattle.sise_serializer.proofs.Does.{spotted, placed, full}
 use Rattle.sise_serializer.proofs.serializer.first.Goals as goal
 
@@ -19,7 +19,7 @@ use Rattle.sise_serializer.proofs.serializer.first.Goals as goal
 spot : (w : Serializer) (token buf : List ℕ) (is_list : Bool) {len : ℕ} {r : Result Spot WriteError} → r ≡ spot_or_full (length buf) w.position 0 len → len ≡ length token
     → r ≡ spot_or_full (length buf) w.position (length (first_item w token is_list).layout) (length (first_item w token is_list).token)
 unfolding first_item
-spot w token buf is_list h e = spot_as _ _ h refl e
+spot w token buf is_list h e = find_as _ _ h refl e
 
 pub returns-in_err-spot : goal.returns-in_err-spot
 returns-in_err-spot g c =

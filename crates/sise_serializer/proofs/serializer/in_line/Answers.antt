@@ -13,7 +13,7 @@ use Rattle.sise_serializer.specs.declared.buffer.Spot.{Spot}
 use Rattle.sise_serializer.specs.declared.serializer.Serializer.{Serializer}
 use Rattle.sise_serializer.specs.declared.serializer.WriteError.{WriteError}
 use Rattle.sise_serializer.proofs.Sound.{small}
-use Rattle.sise_serializer.proofs.Spots.{spot_as}
+use Rattle.sise_serializer.proofs.Spots.{find_as}
 use Rattle.sise_serializer.proofs.Tests.{one_at_most, counted, gap_short, gap_counted}
 use Rattle.sise_serializer.proofs.Does.{spotted, placed_behind, full}
 use Rattle.sise_serializer.proofs.serializer.in_line.Goals as goal
@@ -23,7 +23,7 @@ spot : (w : Serializer) (token buf : List ℕ) (is_list : Bool) {lead len : ℕ}
     → r ≡ spot_or_full (length buf) w.position (lead + 0) len → lead ≡ length (gap_bytes w.list_beginning) → len ≡ length token
     → r ≡ spot_or_full (length buf) w.position (length (in_line w token is_list (gap_bytes w.list_beginning)).layout) (length (in_line w token is_list (gap_bytes w.list_beginning)).token)
 unfolding in_line
-spot w token buf is_list h d e = spot_as _ _ h (add-zero _ ∙ d) e
+spot w token buf is_list h d e = find_as _ _ h (add-zero _ ∙ d) e
 
 pub returns-in_err-spot : goal.returns-in_err-spot
 returns-in_err-spot g c =

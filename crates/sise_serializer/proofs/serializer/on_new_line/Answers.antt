@@ -14,7 +14,7 @@ use Rattle.sise_serializer.specs.declared.serializer.Serializer.{Serializer}
 use Rattle.sise_serializer.specs.declared.serializer.WriteError.{WriteError}
 use Rattle.sise_serializer.proofs.Bytes.{layout_length}
 use Rattle.sise_serializer.proofs.Sound.{small}
-use Rattle.sise_serializer.proofs.Spots.{spot_as}
+use Rattle.sise_serializer.proofs.Spots.{find_as}
 use Rattle.sise_serializer.proofs.Tests.{one_at_most, counted}
 use Rattle.sise_serializer.proofs.Does.{spotted, placed_behind, full}
 use Rattle.sise_serializer.proofs.serializer.on_new_line.Goals as goal
@@ -24,7 +24,7 @@ spot : (w : Serializer) (s : Style) (token buf : List ℕ) (is_list : Bool) {len
     → r ≡ spot_or_full (length buf) w.position (length s.line_break + w.lists * length s.indentation) len → len ≡ length token
     → r ≡ spot_or_full (length buf) w.position (length (inner_as s w token is_list new_line).layout) (length (inner_as s w token is_list new_line).token)
 unfolding inner_as laid
-spot w s token buf is_list h e = spot_as _ _ h (sym (layout_length s.line_break w.lists s.indentation)) e
+spot w s token buf is_list h e = find_as _ _ h (sym (layout_length s.line_break w.lists s.indentation)) e
 
 pub returns-in_err-spot : goal.returns-in_err-spot
 returns-in_err-spot g c =
