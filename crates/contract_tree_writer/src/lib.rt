@@ -11,6 +11,7 @@ ghost use Rattle.sise_tree_writer.specs.Writing.{write_text};
 ghost use Rattle.sise_tree_writer.specs.Sizes.{measured_as, number_in, MeasuresTree, CommitsTree, MeasuresText, CommitsText};
 ghost use Rattle.sise_tree_writer.specs.House.{house_at, house};
 
+use sise_parser::Refusal;
 use sise_serializer::{Serializer, SerializerStyle};
 use sise_tree_writer::{TreeSize, TreeWrote, WriteTreeError, answer_number};
 

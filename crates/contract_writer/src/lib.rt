@@ -8,6 +8,7 @@ ghost use Rattle.sise_serializer.specs.Serializer.{fresh_serializer, style_of, i
 ghost use Rattle.sise_serializer.specs.Phases.{DecodesPhase};
 ghost use Rattle.sise_serializer.specs.Calls.{Does, put_atom_call, begin_list_call, end_list_call, finish_call};
 
+use sise_parser::Refusal;
 use sise_serializer::{
     Phase, Serializer, SerializerStyle, SoundSerializer, UnknownPhase, WriteError, Wrote,
     answer_number,

@@ -19,7 +19,6 @@ use Rattle.sise_tree.specs.Tree.{atom, list, empty, ◌then◌, size, sizes, chi
 use Rattle.sise_tree.specs.Decision.{guard, bind, row, ahead, only, decide}
 use Rattle.sise_tree.specs.ParseTree.{snoc, attach, close, turn, read_stage, read_answer, read_from, read_node, filled_with}
 use Rattle.sise_tree.specs.ParseText.{placed_in, parse_text}
-use Rattle.std.specs.Prelude.{Ok}
 use Rattle.sise_tree_writer.specs.SerializeTree.{node_calls, row_calls, fits, written, write_node, write_tree}
 use Rattle.sise_tree_writer.specs.Writing.{text_calls}
 use Rattle.sise_tree_writer.specs.House.{house_style, house_at}

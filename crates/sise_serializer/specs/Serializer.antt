@@ -2,6 +2,7 @@
 -- Assumes nothing.
 use Rattle.std.specs.Prelude.{ℕ, ◌+◌, ◌-◌, ◌*◌, min, ◌≡◌, Bool, true, false, ◌&&◌, cond, List, [], ◌∷◌, ◌++◌, leb, ltb, eqb, length, Result, Ok, Err}
 use Rattle.sise_util.specs.Atom.{is_atom}
+use Rattle.sise_parser.specs.Refusals.{Refusal, refusal}
 use Rattle.sise_serializer.specs.Bytes.{pasted, repeat}
 use Rattle.sise_serializer.specs.declared.buffer.SerializerStyle.{SerializerStyle}
 use Rattle.sise_serializer.specs.declared.serializer.Phase.{Phase}
@@ -86,6 +87,10 @@ error_number NoListToEnd = 18
 error_number WritingFinished = 19
 error_number WritingNotFinished = 20
 error_number NoRoom = 22
+
+-- it has no place and no code point
+abbrev pub write_refusal : WriteError → Refusal
+write_refusal e = refusal (error_number e) 0 0
 
 -- the offset, or the number, of each answer of the code
 abbrev pub answer_as : Result ℕ WriteError → Answer

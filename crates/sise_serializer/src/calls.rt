@@ -9,7 +9,7 @@ use crate::serializer::{
     Placed, Serializer, WriteError, close_list, finish_text, open_list, write_atom,
 };
 use crate::sound_serializer::SoundSerializer;
-use sise_parser::atom_bytes;
+use sise_parser::{Refusal, atom_bytes};
 
 // The record that the last call left, and how many calls ran.
 #[derive(Clone, Copy, Debug, PartialEq, Eq)]

@@ -2,7 +2,7 @@
 // the call fits before it writes.
 ghost use Rattle.std.specs.Prelude.{◌≡◌, true, false, [], ◌+◌, ◌*◌, ◌<◌, length, MatchOption};
 ghost use Rattle.sise_util.specs.Atom.{is_atom};
-ghost use Rattle.sise_serializer.specs.Serializer.{fresh_serializer, style, style_of, lists_fit, last_break, is_sound, answer_as, number_of, phase_after, new_line, inner_as, close_as, last};
+ghost use Rattle.sise_serializer.specs.Serializer.{fresh_serializer, style, style_of, lists_fit, last_break, is_sound, write_refusal, answer_as, number_of, phase_after, new_line, inner_as, close_as, last};
 ghost use Rattle.sise_serializer.specs.Calls.{Does, put_atom_call, begin_list_call, end_list_call, finish_call};
 ghost use Rattle.sise_serializer.specs.Parts.{wrote_of, Makes, Places, PutsItem, first_item, in_line, gap_bytes, spot_or_full};
 ghost use Rattle.sise_serializer.specs.Phases.{DecodesPhase};
@@ -10,6 +10,7 @@ ghost use Rattle.sise_serializer.specs.Phases.{DecodesPhase};
 use crate::buffer::{LIMIT, SerializerStyle, Spot, copy, find_spot, write_gap, write_line};
 use crate::sound_serializer::SoundSerializer;
 use crate::token::{Atom, ListStart, Token};
+use sise_parser::Refusal;
 use sise_util::check_atom;
 
 // Where the writer is: before the first item, inside the outermost list, after the last item, or after an accepted finish.
@@ -82,11 +83,19 @@ pub(crate) struct Placed {
     pub(crate) offset: usize,
 }
 
-impl WriteError {
-    pub fn number(self) -> u32
-        ensures { result ≡ number_of (answer_as (Err self)) }
-    {
+impl Refusal for WriteError {
+    ghost meaning = { write_refusal };
+
+    fn number(self) -> u32 {
         self as u32
+    }
+
+    fn place(self) -> usize {
+        0
+    }
+
+    fn code(self) -> u32 {
+        0
     }
 }
 

@@ -1,6 +1,7 @@
 -- What the code's answers of the writing calls mean (document 01, "Refusals" and "Trees").
 -- Assumes nothing.
 use Rattle.std.specs.Prelude.{ℕ, Result, Ok, Err}
+use Rattle.sise_parser.specs.Refusals.{Refusal, refusal}
 use Rattle.sise_serializer.specs.declared.serializer.Serializer.{Serializer}
 use Rattle.sise_tree.specs.Answers.{Answer, answered, refused_with}
 use Rattle.sise_tree.specs.declared.tree.Held.{Held}
@@ -20,6 +21,10 @@ error_number InvalidAtom = 17
 error_number WritingFinished = 19
 error_number NoRoom = 22
 error_number SizeChanged = 23
+
+-- it has no place and no code point
+abbrev pub write_refusal : WriteTreeError → Refusal
+write_refusal e = refusal (error_number e) 0 0
 
 -- the offset, or the number, of each answer
 abbrev pub put_as : Result ℕ WriteTreeError → Answer

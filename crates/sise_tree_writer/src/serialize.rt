@@ -2,7 +2,7 @@
 // buffer, and another one writes.
 ghost use Rattle.std.specs.Prelude.{◌≡◌};
 ghost use Rattle.sise_serializer.specs.Serializer.{style_of};
-ghost use Rattle.sise_tree_writer.specs.Answers.{error_number, answer_number, wrote_of, refusal_of};
+ghost use Rattle.sise_tree_writer.specs.Answers.{write_refusal, answer_number, wrote_of, refusal_of};
 ghost use Rattle.sise_tree_writer.specs.SerializeTree.{is_over, serialize_tree, DoesWrite};
 ghost use Rattle.sise_tree_writer.specs.Writing.{PlansTree};
 ghost use Rattle.sise_tree_writer.specs.Sizes.{MeasuresTree, CommitsTree};
@@ -10,6 +10,7 @@ ghost use Rattle.sise_tree_writer.specs.Sizes.{MeasuresTree, CommitsTree};
 use crate::measure::{Planned, measure_nodes};
 use crate::size::{TreeSize, is_size, size_between};
 use crate::write::write_nodes;
+use sise_parser::Refusal;
 use sise_serializer::{Phase, Serializer, SerializerStyle};
 use sise_tree::{Held, LONGEST, TreeTable};
 
@@ -32,11 +33,19 @@ pub struct TreeWrote {
     pub answer: Result<usize, WriteTreeError>,
 }
 
-impl WriteTreeError {
-    pub fn number(self) -> u32
-        ensures { result ≡ error_number self }
-    {
+impl Refusal for WriteTreeError {
+    ghost meaning = { write_refusal };
+
+    fn number(self) -> u32 {
         self as u32
+    }
+
+    fn place(self) -> usize {
+        0
+    }
+
+    fn code(self) -> u32 {
+        0
     }
 }
 
