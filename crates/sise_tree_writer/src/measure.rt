@@ -6,6 +6,7 @@ ghost use Rattle.sise_tree_writer.specs.Walking.{Walkable, Walks};
 use crate::plan::plan_turn;
 use crate::walk::{Place, atom_of, opens_list, pass, start, threshold};
 use sise_serializer::{Phase, Serializer, SerializerStyle, SoundSerializer, find_spot};
+use sise_tree::TreeTable;
 
 // Calls that all fit: the record behind them, and the first one's offset.
 #[derive(Clone, Copy)]
@@ -44,26 +45,25 @@ pub(crate) fn measure_nodes(
     serializer: Serializer,
     style: SerializerStyle<'_>,
     room: usize,
-    text: &[u8],
-    table: &[u32],
+    tree: TreeTable<'_>,
     break_line_at: u64,
 ) -> Option<Planned>
-    requires { Walkable serializer text.now table.now }
-    ensures { Walks (style_of style.entry) room serializer text.now table.now break_line_at result }
+    requires { Walkable serializer tree.text.now tree.table.now }
+    ensures { Walks (style_of style.entry) room serializer tree.entry.text.now tree.entry.table.now break_line_at result }
 {
     let mut w = Serializer {
         position: serializer.position,
         ..serializer
     };
-    let mut place = start(table);
+    let mut place = start(tree.table);
     while place.left {
         let closes = place.i == place.end;
-        let is_list = opens_list(table, place.i, closes);
-        let atom = atom_of(text, table, place.i, closes, is_list);
+        let is_list = opens_list(tree.table, place.i, closes);
+        let atom = atom_of(tree, place.i, closes, is_list);
         let line = threshold(is_list, place.begins, break_line_at);
         let sound = SoundSerializer { serializer: w };
         w = plan_turn(sound, style, room, atom, closes, is_list, line)?;
-        place = pass(table, place, closes, is_list);
+        place = pass(tree.table, place, closes, is_list);
     }
     let sound = SoundSerializer { serializer };
     let offset = first_offset(sound, style, room, break_line_at);

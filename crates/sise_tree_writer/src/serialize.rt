@@ -100,26 +100,25 @@ pub(crate) fn plan_tree(
     serializer: Serializer,
     style: SerializerStyle<'_>,
     room: usize,
-    text: &[u8],
-    table: &[u32],
+    tree: TreeTable<'_>,
     break_line_at: u64,
 ) -> Result<Planned, WriteTreeError>
-    ensures { PlansTree (style_of style.entry) room serializer text.now table.now break_line_at (wrote_of serializer result) }
+    ensures { PlansTree (style_of style.entry) room serializer tree.entry.text.now tree.entry.table.now break_line_at (wrote_of serializer result) }
 {
-    if text.len() > LONGEST {
+    if tree.text.len() > LONGEST {
         return Err(WriteTreeError::TextTooLong);
     }
     if !serializer.is_sound() {
         return Err(WriteTreeError::UnsoundRecord);
     }
-    let held = TreeTable { table, text }.holds_tree();
+    let held = tree.holds_tree();
     let Held::Tree = held else {
         return Err(refusal_of(held));
     };
     if is_over(serializer.phase) {
         return Err(WriteTreeError::WritingFinished);
     }
-    match measure_nodes(serializer, style, room, text, table, break_line_at) {
+    match measure_nodes(serializer, style, room, tree, break_line_at) {
         Some(planned) => Ok(planned),
         None => Err(WriteTreeError::NoRoom),
     }
@@ -130,13 +129,12 @@ pub fn measure_tree(
     serializer: Serializer,
     style: SerializerStyle<'_>,
     room: usize,
-    text: &[u8],
-    table: &[u32],
+    tree: TreeTable<'_>,
     break_line_at: u64,
 ) -> Result<TreeSize, WriteTreeError>
-    ensures { MeasuresTree (style_of style.entry) room serializer text.now table.now break_line_at result }
+    ensures { MeasuresTree (style_of style.entry) room serializer tree.entry.text.now tree.entry.table.now break_line_at result }
 {
-    match plan_tree(serializer, style, room, text, table, break_line_at) {
+    match plan_tree(serializer, style, room, tree, break_line_at) {
         Ok(planned) => Ok(size_between(serializer, planned.serializer)),
         Err(error) => Err(error),
     }
@@ -148,21 +146,20 @@ pub fn commit_tree(
     serializer: Serializer,
     style: SerializerStyle<'_>,
     buf: &mut [u8],
-    text: &[u8],
-    table: &[u32],
+    tree: TreeTable<'_>,
     break_line_at: u64,
     measured: Result<TreeSize, WriteTreeError>,
 ) -> TreeWrote
-    ensures { CommitsTree (style_of style.entry) buf.old serializer text.now table.now break_line_at measured result buf.new }
+    ensures { CommitsTree (style_of style.entry) buf.old serializer tree.entry.text.now tree.entry.table.now break_line_at measured result buf.new }
 {
-    let planned = plan_tree(serializer, style, buf.len(), text, table, break_line_at);
-    let Ok(tree) = planned else {
+    let planned = plan_tree(serializer, style, buf.len(), tree, break_line_at);
+    let Ok(fit) = planned else {
         return wrote(serializer, planned);
     };
-    if !is_size(measured, serializer, tree.serializer) {
+    if !is_size(measured, serializer, fit.serializer) {
         return wrote(serializer, Err(WriteTreeError::SizeChanged));
     }
-    write_nodes(serializer, style, buf, text, table, break_line_at);
+    write_nodes(serializer, style, buf, tree, break_line_at);
     wrote(serializer, planned)
 }
 
@@ -172,16 +169,15 @@ pub fn serialize_tree(
     serializer: Serializer,
     style: SerializerStyle<'_>,
     buf: &mut [u8],
-    text: &[u8],
-    table: &[u32],
+    tree: TreeTable<'_>,
     break_line_at: u64,
 ) -> TreeWrote
-    ensures { DoesWrite (serialize_tree (style_of style.entry) buf.old serializer text.now table.now break_line_at) result buf.new }
+    ensures { DoesWrite (serialize_tree (style_of style.entry) buf.old serializer tree.entry.text.now tree.entry.table.now break_line_at) result buf.new }
 {
-    let planned = plan_tree(serializer, style, buf.len(), text, table, break_line_at);
+    let planned = plan_tree(serializer, style, buf.len(), tree, break_line_at);
     let Ok(_) = planned else {
         return wrote(serializer, planned);
     };
-    write_nodes(serializer, style, buf, text, table, break_line_at);
+    write_nodes(serializer, style, buf, tree, break_line_at);
     wrote(serializer, planned)
 }

@@ -5,7 +5,7 @@ ghost use Rattle.sise_parser.specs.Reader.{part_of};
 ghost use Rattle.sise_serializer.specs.Calls.{largest};
 ghost use Rattle.sise_tree_writer.specs.Walking.{opens_at, atom_at, AtomIn, Passable, started, passed};
 
-use sise_tree::wide;
+use sise_tree::{TreeTable, wide};
 
 // Where a walk is: the next node, the innermost open list and its end, whether a list has just begun, and whether anything is left.
 #[derive(Clone, Copy, Debug, PartialEq, Eq)]
@@ -51,20 +51,18 @@ fn part(text: &[u8], place: usize, len: usize) -> &[u8]
 }
 
 // A turn's atom: node `i`'s, and none for a list or the end of one.
-pub(crate) fn atom_of<'a>(
-    text: &'a [u8],
-    table: &[u32],
-    i: usize,
-    closes: bool,
-    is_list: bool,
-) -> &'a [u8]
-    requires { closes ≡ false → is_list ≡ false → AtomIn text.now table.now i }
-    ensures { result.now ≡ atom_at text.now table.now i closes is_list }
+pub(crate) fn atom_of<'a>(tree: TreeTable<'a>, i: usize, closes: bool, is_list: bool) -> &'a [u8]
+    requires { closes ≡ false → is_list ≡ false → AtomIn tree.text.now tree.table.now i }
+    ensures { result.now ≡ atom_at tree.entry.text.now tree.entry.table.now i closes is_list }
 {
     if closes || is_list {
         return b"";
     }
-    part(text, wide(table[4 * i + 1]), wide(table[4 * i + 2]))
+    part(
+        tree.text,
+        wide(tree.table[4 * i + 1]),
+        wide(tree.table[4 * i + 2]),
+    )
 }
 
 // The threshold of a turn: a list's, or an atom's, which at the beginning of a list is the largest: no line is that long.

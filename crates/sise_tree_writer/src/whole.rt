@@ -12,27 +12,27 @@ use crate::serialize::{TreeWrote, WriteTreeError, plan_tree, wrote};
 use crate::size::{TreeSize, is_size, size_between};
 use crate::write::write_nodes;
 use sise_serializer::{Serializer, SerializerStyle, SoundSerializer, paste};
+use sise_tree::TreeTable;
 
 // What write_text comes to with a buffer of `room` bytes. Nothing is written.
 pub(crate) fn plan_text(
     style: SerializerStyle<'_>,
     room: usize,
-    text: &[u8],
-    table: &[u32],
+    tree: TreeTable<'_>,
     break_line_at: u64,
     final_break: bool,
 ) -> Result<Planned, WriteTreeError>
-    ensures { PlansText (style_of style.entry) room text.now table.now break_line_at final_break (wrote_of fresh_serializer result) }
+    ensures { PlansText (style_of style.entry) room tree.entry.text.now tree.entry.table.now break_line_at final_break (wrote_of fresh_serializer result) }
 {
     let fresh = Serializer::new();
-    let tree = plan_tree(fresh, style, room, text, table, break_line_at)?;
+    let nodes = plan_tree(fresh, style, room, tree, break_line_at)?;
     let sound = SoundSerializer {
-        serializer: tree.serializer,
+        serializer: nodes.serializer,
     };
     match plan_finish(sound, style, room, final_break) {
         Some(last) => Ok(Planned {
             serializer: last,
-            offset: tree.offset,
+            offset: nodes.offset,
         }),
         None => Err(WriteTreeError::NoRoom),
     }
@@ -42,14 +42,13 @@ pub(crate) fn plan_text(
 pub fn measure_text(
     style: SerializerStyle<'_>,
     room: usize,
-    text: &[u8],
-    table: &[u32],
+    tree: TreeTable<'_>,
     break_line_at: u64,
     final_break: bool,
 ) -> Result<TreeSize, WriteTreeError>
-    ensures { MeasuresText (style_of style.entry) room text.now table.now break_line_at final_break result }
+    ensures { MeasuresText (style_of style.entry) room tree.entry.text.now tree.entry.table.now break_line_at final_break result }
 {
-    match plan_text(style, room, text, table, break_line_at, final_break) {
+    match plan_text(style, room, tree, break_line_at, final_break) {
         Ok(planned) => Ok(size_between(Serializer::new(), planned.serializer)),
         Err(error) => Err(error),
     }
@@ -59,15 +58,14 @@ pub fn measure_text(
 fn write_planned(
     style: SerializerStyle<'_>,
     buf: &mut [u8],
-    text: &[u8],
-    table: &[u32],
+    tree: TreeTable<'_>,
     break_line_at: u64,
     final_break: bool,
 )
-    requires { IsWritten (write_text (style_of style) buf.old text.now table.now break_line_at final_break) }
-    ensures { buf.new ≡ (write_text (style_of style.entry) buf.old text.now table.now break_line_at final_break).buffer }
+    requires { IsWritten (write_text (style_of style) buf.old tree.text.now tree.table.now break_line_at final_break) }
+    ensures { buf.new ≡ (write_text (style_of style.entry) buf.old tree.entry.text.now tree.entry.table.now break_line_at final_break).buffer }
 {
-    let end = write_nodes(Serializer::new(), style, buf, text, table, break_line_at);
+    let end = write_nodes(Serializer::new(), style, buf, tree, break_line_at);
     paste(buf, end, style.final_break(final_break));
 }
 
@@ -76,23 +74,22 @@ fn write_planned(
 pub fn commit_text(
     style: SerializerStyle<'_>,
     buf: &mut [u8],
-    text: &[u8],
-    table: &[u32],
+    tree: TreeTable<'_>,
     break_line_at: u64,
     final_break: bool,
     measured: Result<TreeSize, WriteTreeError>,
 ) -> TreeWrote
-    ensures { CommitsText (style_of style.entry) buf.old text.now table.now break_line_at final_break measured result buf.new }
+    ensures { CommitsText (style_of style.entry) buf.old tree.entry.text.now tree.entry.table.now break_line_at final_break measured result buf.new }
 {
     let fresh = Serializer::new();
-    let planned = plan_text(style, buf.len(), text, table, break_line_at, final_break);
+    let planned = plan_text(style, buf.len(), tree, break_line_at, final_break);
     let Ok(whole) = planned else {
         return wrote(fresh, planned);
     };
     if !is_size(measured, fresh, whole.serializer) {
         return wrote(fresh, Err(WriteTreeError::SizeChanged));
     }
-    write_planned(style, buf, text, table, break_line_at, final_break);
+    write_planned(style, buf, tree, break_line_at, final_break);
     wrote(fresh, planned)
 }
 
@@ -100,18 +97,17 @@ pub fn commit_text(
 pub fn write_text(
     style: SerializerStyle<'_>,
     buf: &mut [u8],
-    text: &[u8],
-    table: &[u32],
+    tree: TreeTable<'_>,
     break_line_at: u64,
     final_break: bool,
 ) -> TreeWrote
-    ensures { DoesWrite (write_text (style_of style.entry) buf.old text.now table.now break_line_at final_break) result buf.new }
+    ensures { DoesWrite (write_text (style_of style.entry) buf.old tree.entry.text.now tree.entry.table.now break_line_at final_break) result buf.new }
 {
     let fresh = Serializer::new();
-    let planned = plan_text(style, buf.len(), text, table, break_line_at, final_break);
+    let planned = plan_text(style, buf.len(), tree, break_line_at, final_break);
     let Ok(_) = planned else {
         return wrote(fresh, planned);
     };
-    write_planned(style, buf, text, table, break_line_at, final_break);
+    write_planned(style, buf, tree, break_line_at, final_break);
     wrote(fresh, planned)
 }

@@ -12,6 +12,7 @@ use crate::walk::{atom_of, opens_list, pass, start, threshold};
 use sise_serializer::{
     Phase, Serializer, SerializerStyle, SoundSerializer, paste, paste_line, phase_after, write_gap,
 };
+use sise_tree::TreeTable;
 
 // An item's token: a parenthesis, or the atom.
 fn write_token(buf: &mut [u8], at: usize, atom: &[u8], is_list: bool)
@@ -159,29 +160,28 @@ pub(crate) fn write_nodes(
     serializer: Serializer,
     style: SerializerStyle<'_>,
     buf: &mut [u8],
-    text: &[u8],
-    table: &[u32],
+    tree: TreeTable<'_>,
     break_line_at: u64,
 ) -> usize
-    requires { Writable (style_of style) buf.old serializer text.now table.now break_line_at }
-    ensures { WritesNodes (style_of style.entry) buf.old serializer text.now table.now break_line_at result buf.new }
+    requires { Writable (style_of style) buf.old serializer tree.text.now tree.table.now break_line_at }
+    ensures { WritesNodes (style_of style.entry) buf.old serializer tree.entry.text.now tree.entry.table.now break_line_at result buf.new }
 {
     let mut w = Serializer {
         position: serializer.position,
         ..serializer
     };
-    let mut place = start(table);
+    let mut place = start(tree.table);
     while place.left {
         let sound = SoundSerializer { serializer: w };
         if place.i == place.end {
             w = write_end(sound, style, buf);
-            place = pass(table, place, true, false);
+            place = pass(tree.table, place, true, false);
         } else {
-            let is_list = opens_list(table, place.i, false);
-            let atom = atom_of(text, table, place.i, false, is_list);
+            let is_list = opens_list(tree.table, place.i, false);
+            let atom = atom_of(tree, place.i, false, is_list);
             let line = threshold(is_list, place.begins, break_line_at);
             w = write_item(sound, style, buf, atom, is_list, line);
-            place = pass(table, place, false, is_list);
+            place = pass(tree.table, place, false, is_list);
         }
     }
     w.position

@@ -8,7 +8,7 @@ use Rattle.sise_tree_writer.proofs.Walked.{walking_start, turn_passable, turn_at
 use Rattle.sise_tree_writer.proofs.measure.measure_nodes.Goals as goal
 
 pub start-place-requires : goal.start-place-requires
-start-place-requires c = root_there c.args.text.now c.args.table.now c.requires.checked.holds
+start-place-requires c = root_there c.args.tree.text.now c.args.tree.table.now c.requires.checked.holds
 
 pub loop-place-init : goal.loop-place-init
 loop-place-init c = rw c.start-place.ensures (0, walking_start _ _ _ _ _ _ _ _ refl c.requires (λ y. absurd (false≢true y)) (λ y n d. absurd (false≢true y)))

@@ -19,7 +19,7 @@ pub is_size-requires : goal.is_size-requires
 unfolding serialize_tree
 is_size-requires c =
     let a = c.args in
-    measured_grown (style_of a.style) a.buf.now a.serializer a.text.now a.table.now (tree_calls a.text.now a.break_line_at) (c.in-Ok.ensures a.buf.now refl)
+    measured_grown (style_of a.style) a.buf.now a.serializer a.tree.text.now a.tree.table.now (tree_calls a.tree.text.now a.break_line_at) (c.in-Ok.ensures a.buf.now refl)
 
 pub returns-then-not-is_size : goal.returns-then-not-is_size
 returns-then-not-is_size c =
@@ -30,11 +30,11 @@ pub write_nodes-requires : goal.write_nodes-requires
 write_nodes-requires c =
     let a = c.args in
     let m = c.in-Ok.ensures a.buf.now refl in
-    tree_writable (style_of a.style) a.buf.now a.serializer a.text.now a.table.now a.break_line_at (sym m.answer)
+    tree_writable (style_of a.style) a.buf.now a.serializer a.tree.text.now a.tree.table.now a.break_line_at (sym m.answer)
 
 pub returns : goal.returns
 returns c =
     let a = c.args in
     let m = c.in-Ok.ensures a.buf.now refl in
     rw c.wrote-2.ensures (does_same a.buf.now a.serializer _ (measured_as a.measured) m refl c.is_size.ensures c.if-not-is_size.false
-    (tree_made (style_of a.style) a.buf.now a.serializer a.text.now a.table.now a.break_line_at (sym m.answer) c.write_nodes.ensures))
+    (tree_made (style_of a.style) a.buf.now a.serializer a.tree.text.now a.tree.table.now a.break_line_at (sym m.answer) c.write_nodes.ensures))

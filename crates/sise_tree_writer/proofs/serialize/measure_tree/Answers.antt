@@ -9,7 +9,7 @@ use Rattle.sise_tree_writer.proofs.serialize.measure_tree.Goals as goal
 
 pub size_between-requires : goal.size_between-requires
 unfolding serialize_tree
-size_between-requires c = let a = c.args in measured_grown (style_of a.style) (replicate a.room 0) a.serializer a.text.now a.table.now (tree_calls a.text.now a.break_line_at) (c.in-Ok.ensures (replicate a.room 0) (length-replicate {A = ℕ} a.room 0))
+size_between-requires c = let a = c.args in measured_grown (style_of a.style) (replicate a.room 0) a.serializer a.tree.text.now a.tree.table.now (tree_calls a.tree.text.now a.break_line_at) (c.in-Ok.ensures (replicate a.room 0) (length-replicate {A = ℕ} a.room 0))
 
 pub returns-in-Ok : goal.returns-in-Ok
 returns-in-Ok c = λ b long. c.size_between.ensures ∙ planned_enquiry c.args.serializer (c.in-Ok.ensures b long)

@@ -17,11 +17,11 @@ pub write_nodes-requires : goal.write_nodes-requires
 write_nodes-requires c =
     let a = c.args in
     let m = c.in-Ok.ensures a.buf.now refl in
-    tree_writable (style_of a.style) a.buf.now a.serializer a.text.now a.table.now a.break_line_at (sym m.answer)
+    tree_writable (style_of a.style) a.buf.now a.serializer a.tree.text.now a.tree.table.now a.break_line_at (sym m.answer)
 
 pub returns : goal.returns
 returns c =
     let a = c.args in
     let m = c.in-Ok.ensures a.buf.now refl in
     rw (c.wrote-2.ensures, c.in-Ok.is)
-    (record { serializer = m.serializer; answer = m.answer; buffer = tree_made (style_of a.style) a.buf.now a.serializer a.text.now a.table.now a.break_line_at (sym m.answer) c.write_nodes.ensures })
+    (record { serializer = m.serializer; answer = m.answer; buffer = tree_made (style_of a.style) a.buf.now a.serializer a.tree.text.now a.tree.table.now a.break_line_at (sym m.answer) c.write_nodes.ensures })

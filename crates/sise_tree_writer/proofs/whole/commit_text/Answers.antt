@@ -16,7 +16,7 @@ returns-in_default c =
 pub is_size-requires : goal.is_size-requires
 is_size-requires c =
     let a = c.args in
-    rw c.new-fresh.ensures (measured_grown (style_of a.style) a.buf.now fresh_serializer a.text.now a.table.now (text_calls a.text.now a.break_line_at a.final_break) (c.in-Ok.ensures a.buf.now refl))
+    rw c.new-fresh.ensures (measured_grown (style_of a.style) a.buf.now fresh_serializer a.tree.text.now a.tree.table.now (text_calls a.tree.text.now a.break_line_at a.final_break) (c.in-Ok.ensures a.buf.now refl))
 
 pub returns-then-not-is_size : goal.returns-then-not-is_size
 returns-then-not-is_size c =

@@ -11,7 +11,7 @@ pub size_between-requires : goal.size_between-requires
 size_between-requires c =
     let a = c.args in
     rw c.new.ensures
-    (measured_grown (style_of a.style) (replicate a.room 0) fresh_serializer a.text.now a.table.now (text_calls a.text.now a.break_line_at a.final_break) (c.in-Ok.ensures (replicate a.room 0) (length-replicate {A = ℕ} a.room 0)))
+    (measured_grown (style_of a.style) (replicate a.room 0) fresh_serializer a.tree.text.now a.tree.table.now (text_calls a.tree.text.now a.break_line_at a.final_break) (c.in-Ok.ensures (replicate a.room 0) (length-replicate {A = ℕ} a.room 0)))
 
 pub returns-in-Ok : goal.returns-in-Ok
 returns-in-Ok c = λ b long. (rw c.new.ensures at c.size_between.ensures) ∙ planned_enquiry fresh_serializer (c.in-Ok.ensures b long)

@@ -8,7 +8,7 @@ use Rattle.sise_tree_writer.proofs.Walked.{walking_start, turn_there, turn_passa
 use Rattle.sise_tree_writer.proofs.write.write_nodes.Goals as goal
 
 pub start-place-requires : goal.start-place-requires
-start-place-requires c = root_there c.args.text.now c.args.table.now c.requires.walkable.checked.holds
+start-place-requires c = root_there c.args.tree.text.now c.args.tree.table.now c.requires.walkable.checked.holds
 
 pub loop-place-init : goal.loop-place-init
 loop-place-init c = rw c.start-place.ensures (0, walking_start _ _ _ _ _ _ _ _ refl c.requires.walkable (λ y. refl) (λ y n d. c.requires.fit n d))

@@ -8,7 +8,7 @@ use Rattle.sise_tree_writer.proofs.write.write_nodes.Given as goal
 
 abbrev pub invariant-loop-place : goal.invariant-loop-place
 invariant-loop-place l =
-    (o : ℕ) × Walking (style_of l.style) l.text l.table l.break_line_at true (length l.initial.buf) l.initial.buf l.initial.w l.buf l.w l.place.i l.place.list l.place.end l.place.begins l.place.left o
+    (o : ℕ) × Walking (style_of l.style) l.tree.text.now l.tree.table.now l.break_line_at true (length l.initial.buf) l.initial.buf l.initial.w l.buf l.w l.place.i l.place.list l.place.end l.place.begins l.place.left o
 
 abbrev pub decreases-loop-place : goal.decreases-loop-place
-decreases-loop-place l = 2 * (length l.table - l.place.i) + l.w.lists
+decreases-loop-place l = 2 * (length l.tree.table.now - l.place.i) + l.w.lists
