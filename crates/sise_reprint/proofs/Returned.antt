@@ -13,7 +13,6 @@ use Rattle.sise_tree.proofs.Lossless.{parsed_lossless}
 use Rattle.sise_tree_writer.specs.Answers.{put_as}
 use Rattle.sise_tree_writer.specs.SerializeTree.{Writes}
 use Rattle.sise_tree_writer.specs.House.{house_at}
-use Rattle.sise_tree_writer.specs.declared.serialize.PutTree.TheVariants.{At}
 use Rattle.sise_tree_writer.specs.declared.serialize.TreeWrote.{TreeWrote}
 use Rattle.sise_tree_writer.proofs.Lossless.{put_lossless}
 use Rattle.sise_reprint.specs.Reprint.{reprinted, after_house, after_parse, reprint, Calls, text_by}
@@ -32,7 +31,7 @@ module _ {t : ℕ} {text words buffer : List ℕ} {parsed : Result ℕ TreeError
       ∙ ap (λ (d : Writes). take d.serializer.position d.buffer) written
 
   -- both answered
-  pub returned_reprint : {k o : ℕ} → parsed ≡ Ok k → wrote.answer ≡ At o → reprint t text words buffer ≡ reprinted k (text_by wrote now)
+  pub returned_reprint : {k o : ℕ} → parsed ≡ Ok k → wrote.answer ≡ Ok o → reprint t text words buffer ≡ reprinted k (text_by wrote now)
   unfolding reprint
   returned_reprint {k} {o} p w =
       let d = house_at t buffer text (parse_text text words).words in
@@ -57,10 +56,10 @@ module _ {t : ℕ} {text words buffer : List ℕ} {parsed : Result ℕ TreeError
     pub returns_answer : put_as wrote.answer ≡ (printing t (tree r) buffer).answer
     returns_answer = c.write.answer ∙ ap (λ (d : Writes). d.answer) made
 
-    pub returns_offset : (o : ℕ) × (wrote.answer ≡ At o)
+    pub returns_offset : (o : ℕ) × (wrote.answer ≡ Ok o)
     returns_offset =
         let (o, a) = fits_answer t (tree r) buffer r.prints.fit in
-        (o, put_lossless wrote.answer (At o) (returns_answer ∙ a))
+        (o, put_lossless wrote.answer (Ok o) (returns_answer ∙ a))
 
     pub returns_text : text_by wrote now ≡ out
     returns_text =

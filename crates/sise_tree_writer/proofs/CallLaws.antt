@@ -17,7 +17,7 @@ use Rattle.sise_serializer.specs.Serializer.{Style, Piece, Written, lists_fit, i
 use Rattle.sise_serializer.specs.declared.serializer.Phase.{Phase}
 use Rattle.sise_serializer.specs.declared.serializer.Phase.TheVariants.{Beginning}
 use Rattle.sise_serializer.specs.declared.serializer.Serializer.{Serializer}
-use Rattle.sise_serializer.specs.Calls.{Call, put_atom_call, begin_list_call, end_list_call, finish_call, step, run}
+use Rattle.sise_serializer.specs.Calls.{Call, put_atom_call, begin_list_call, end_list_call, finish_call, is_accepted, step, run}
 use Rattle.sise_serializer.proofs.Sound.{sound, writing_lists}
 use Rattle.sise_serializer.proofs.Kept.{sound_kept}
 use Rattle.sise_serializer.proofs.Verdicts.{Puts, atom_alone, atom_inside, list_first, list_inside, list_closed, text_ended, Verdict, refuses, puts, verdict}
@@ -48,6 +48,10 @@ module _ (s : Style) (room : ℕ) (w : Serializer) (c : Call) (cs : List Call) w
   pub fits_on : {o : ℕ} → (step s room w c).answer ≡ writer.Answer.accepted o → fits s room w (c ∷ cs) ≡ fits s room (step s room w c).serializer cs
   unfolding fits
   fits_on h = rw h
+
+  pub fits_stop : is_accepted (step s room w c).answer ≡ false → fits s room w (c ∷ cs) ≡ false
+  unfolding fits
+  fits_stop h = rw h
 
   pub fits_off : {n : ℕ} → (step s room w c).answer ≡ writer.Answer.refused n → fits s room w (c ∷ cs) ≡ false
   unfolding fits
