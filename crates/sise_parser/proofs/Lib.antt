@@ -1,6 +1,5 @@
 pub mod Steps
 pub mod ByteSteps
-pub mod Runs
 pub mod Induction
 pub mod Placed
 pub mod Calls

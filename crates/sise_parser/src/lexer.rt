@@ -147,36 +147,31 @@ fn is_blank(byte: u8) -> bool
     }
 }
 
-// The first place from `from` on that holds no blank, or the end.
+// The first place from `from` on that holds no blank, or the end. The loop counts by hand, as atom_run's: a search of the rest's iterator, tried in both, has to
+// make that rest first, and a tree of short tokens took up to half as long again to read.
 pub fn skip_blanks(text: &[u8], from: usize) -> usize
     ensures same { result ≡ skip_blanks (drop from text.now) from }
     ensures after { from ≤ result }
     ensures token { between (drop from text.now) from ≡ between (drop result text.now) result }
 {
-    let Some(rest) = text.get(from..) else {
-        return from;
-    };
-    let blanks = rest
-        .iter()
-        .position(|byte| !is_blank(*byte))
-        .unwrap_or(rest.len());
-    from + blanks
+    let mut at = from;
+    while at < text.len() && is_blank(text[at]) {
+        at += 1;
+    }
+    at
 }
 
-// The end of the run of atom characters that begins at `start`.
+// The end of the run of atom characters that begins at `start`. It counts by hand too.
 pub fn atom_run(text: &[u8], start: usize) -> usize
     ensures same { result ≡ atom_run (drop start text.now) start }
     ensures after { start ≤ result }
     ensures token { AtomTo text.now start result }
 {
-    let Some(rest) = text.get(start..) else {
-        return start;
-    };
-    let run = rest
-        .iter()
-        .position(|byte| !is_atom_byte(*byte))
-        .unwrap_or(rest.len());
-    start + run
+    let mut at = start;
+    while at < text.len() && is_atom_byte(text[at]) {
+        at += 1;
+    }
+    at
 }
 
 // Whether a `"` stands at `at`.
