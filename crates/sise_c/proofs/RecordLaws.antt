@@ -1,7 +1,8 @@
 -- The words of a record mean it, and words that mean a record are its words: a number has one meaning as a phase or a flag at most, and a record's other
 -- words are its numbers themselves.
 -- Assumes nothing.
-use Prim.Native.Nat.{ℕ, zero, suc}
+use Prim.Native.Nat.{ℕ, zero, suc, ◌<◌}
+use native.Mathlib.Omega.{arith}
 use mathlib.Core.Path.{◌≡◌, refl, sym, ap, ◌∙◌}
 use mathlib.Core.Bool.{Bool, true, false}
 use mathlib.Core.List.{List, [], ◌∷◌}
@@ -24,6 +25,13 @@ no_reader_phase zero h = absurd (h reading.Beginning refl)
 no_reader_phase (suc zero) h = absurd (h reading.Parsing refl)
 no_reader_phase (suc (suc zero)) h = absurd (h reading.Finishing refl)
 no_reader_phase (suc (suc (suc n))) h = refl
+
+pub no_writer_phase : (n : ℕ) → 3 < n → writer_phase n ≡ None
+no_writer_phase zero h = absurd (omega arith)
+no_writer_phase (suc zero) h = absurd (omega arith)
+no_writer_phase (suc (suc zero)) h = absurd (omega arith)
+no_writer_phase (suc (suc (suc zero))) h = absurd (omega arith)
+no_writer_phase (suc (suc (suc (suc n)))) h = refl
 
 -- ---- a record's words mean it
 pub reader_kept : (r : Reader) → reader_of (reader_words r) ≡ Some r

@@ -28,9 +28,10 @@ use Rattle.sise_serializer.proofs.Bytes.{pasted_none}
 use Rattle.sise_serializer.proofs.Does.{unsound_call}
 use Rattle.sise_serializer.proofs.Verdicts.{Verdict, refuses, puts, verdict}
 use Rattle.sise_tree.specs.Answers.{Answer, answered, refused, refused_with}
-use Rattle.std.specs.Prelude.{Option, None, Some}
+use Rattle.std.specs.Prelude.{Option, None, Some, Result}
 use Rattle.sise_c.specs.Records.{reader_words, serializer_of, serializer_words}
-use Rattle.sise_c.specs.Reports.{Reports}
+use Rattle.sise_c.specs.declared.report.Numbered.{Numbered}
+use Rattle.sise_c.specs.Reports.{Tells}
 use Rattle.sise_c.specs.Singly.{stands, next_by, next_of, ending_answer, finish_by, finish_of, put_answer, word_answer, leaves, call_by, call_on, Makes}
 use Rattle.sise_c.proofs.RecordLaws.{reader_kept, writer_kept, writer_words}
 
@@ -152,13 +153,13 @@ unfolding call_of
 finish_kind a true e = rw e refl
 finish_kind a false e = rw e refl
 
-pub call_made : (c : Call) (s : Style) (ws buf : List ℕ) {w r : Serializer} {n : ℕ} {answers values words bytes : List ℕ} → Some w ≡ serializer_of ws → Made c s w buf r answers bytes
-    → Reports (word_answer (get_or answers 0 0)) n values → words ≡ serializer_words r → Makes (call_on c s ws buf) n values words bytes
+pub call_made : (c : Call) (s : Style) (ws buf : List ℕ) {w r : Serializer} {answers words bytes : List ℕ} {told : Result (List ℕ) Numbered} → Some w ≡ serializer_of ws → Made c s w buf r answers bytes
+    → Tells (word_answer (get_or answers 0 0)) told → words ≡ serializer_words r → Makes (call_on c s ws buf) told words bytes
 unfolding call_by call_on
-call_made c s ws buf {w = w} {n = n} {values = values} e p t z =
+call_made c s ws buf {w = w} {told = told} e p t z =
     let a = (step s (length buf) w c).answer in
     let g = ap (λ (l : List ℕ). word_answer (get_or l 0 0)) p.answers ∙ word_answer_lem a (small s (length buf) w c) in
-    rw (← e) (record { answer = subst (λ (x : Answer). Reports x n values) g t; words = z ∙ ap serializer_words p.serializer; bytes = p.buffer })
+    rw (← e) (record { answer = subst (λ (x : Answer). Tells x told) g t; words = z ∙ ap serializer_words p.serializer; bytes = p.buffer })
 
 -- ---- a refused call leaves the words and the buffer: the record that it hands back is the one that it was given, and it has no bytes
 

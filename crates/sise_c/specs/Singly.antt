@@ -1,6 +1,6 @@
 -- The reader's and the writer's calls one by one, over the words of a record (document 01, "Refusals": "Reader: 11, then 9 or 10, then the text", and so on).
 -- Assumes nothing.
-use Rattle.std.specs.Prelude.{ℕ, ◌-◌, ◌^◌, ◌≡◌, cond, List, [], ◌∷◌, leb, length, take, Option, None, Some}
+use Rattle.std.specs.Prelude.{ℕ, ◌-◌, ◌^◌, ◌≡◌, cond, List, [], ◌∷◌, leb, length, take, Option, None, Some, Result}
 use Rattle.sise_parser.specs.Reader as reader
 use Rattle.sise_parser.specs.Reader.{next_item, Ending, ended, not_ended, finish_reading}
 use Rattle.sise_parser.specs.declared.reader.Reader.{Reader}
@@ -12,7 +12,8 @@ use Rattle.sise_serializer.specs.declared.serializer.Serializer.{Serializer}
 use Rattle.sise_tree.specs.Answers.{Answer, answered, refused, refused_with}
 use Rattle.sise_c.specs.Items.{item_words}
 use Rattle.sise_c.specs.Records.{reader_of, reader_words, serializer_of, serializer_words}
-use Rattle.sise_c.specs.Reports.{Reports}
+use Rattle.sise_c.specs.Reports.{Tells}
+use Rattle.sise_c.specs.declared.report.Numbered.{Numbered}
 
 -- ---- next_item
 
@@ -88,8 +89,8 @@ call_by c s ws buf (Some w) = leaves buf w (step s (length buf) w c)
 unfoldable pub call_on : Call → Style → List ℕ → List ℕ → Leaves
 call_on c s ws buf = call_by c s ws buf (serializer_of ws)
 
--- a call that leaves d: its result r, and how the values, the record's words and the buffer end
-pub record Makes (d : Leaves) (r : ℕ) (now ws buf : List ℕ) : Type 0 where
-  pub answer : Reports d.answer r now
+-- a call that leaves d: its result, and how the record's words and the buffer end
+pub record Makes (d : Leaves) (r : Result (List ℕ) Numbered) (ws buf : List ℕ) : Type 0 where
+  pub answer : Tells d.answer r
   pub words : ws ≡ d.words
   pub bytes : buf ≡ d.buffer

@@ -22,10 +22,9 @@ ghost use Rattle.sise_c.specs.Items.{read_items};
 use items::read_items;
 pub use reading::{sise_finish_reading, sise_next_item};
 use report::{
-    CallCount, Size, Values, found_words, number_words, report, report_measured, report_put,
-    size_given,
+    CallCount, Size, Values, found_words, measured, number_words, report, size_given, written,
 };
-use sise_serializer::write_calls;
+use sise_serializer::{SerializerStyle, write_calls};
 use sise_tree::{TreeTable, parse_text};
 use sise_tree_writer::{commit_text, measure_text, write_text};
 use sise_util::{check_atom, kind_number};
@@ -84,17 +83,12 @@ pub fn sise_serialize_tree(
     ensures answer { Reports (size_of (write_text (style line_break.now indentation.now) buf.old text.now table.now break_line_at final_break)) result values.new }
     ensures bytes { buf.new ≡ (write_text (style line_break.now indentation.now) buf.old text.now table.now break_line_at final_break).buffer }
 {
-    let wrote = write_text(
+    let style = SerializerStyle {
         line_break,
         indentation,
-        buf,
-        text,
-        table,
-        break_line_at,
-        final_break,
-    );
-    let answer = wrote.answer;
-    report_put(answer, wrote.serializer.position, values)
+    };
+    let wrote = write_text(style, buf, text, table, break_line_at, final_break);
+    report(written(wrote), values)
 }
 
 // Size first: the bytes, line breaks and indentations that sise_serialize_tree would write with a buffer of `buf_len` bytes, or its refusal. Nothing is written
@@ -111,16 +105,12 @@ pub fn sise_measure_tree(
 ) -> u32
     ensures { ReportsSize buf_len (λ b. write_text (style line_break.now indentation.now) b text.now table.now break_line_at final_break) result size.new }
 {
-    let measured = measure_text(
+    let style = SerializerStyle {
         line_break,
         indentation,
-        buf_len,
-        text,
-        table,
-        break_line_at,
-        final_break,
-    );
-    report_measured(measured, size)
+    };
+    let answer = measure_text(style, buf_len, text, table, break_line_at, final_break);
+    report(measured(answer), size)
 }
 
 // Then the text: writes it as sise_serialize_tree does, if the size is still what sise_measure_tree answers with a buffer of this length, and else refuses with
@@ -139,18 +129,13 @@ pub fn sise_commit_tree(
     ensures answer { TellsCommit (style line_break.now indentation.now) buf.old text.now table.now break_line_at final_break size.now result values.new }
     ensures bytes { WritesCommit (style line_break.now indentation.now) buf.old text.now table.now break_line_at final_break size.now buf.new }
 {
-    let wrote = commit_text(
+    let style = SerializerStyle {
         line_break,
         indentation,
-        buf,
-        text,
-        table,
-        break_line_at,
-        final_break,
-        size_given(size),
-    );
-    let answer = wrote.answer;
-    report_put(answer, wrote.serializer.position, values)
+    };
+    let given = Ok(size_given(size));
+    let wrote = commit_text(style, buf, text, table, break_line_at, final_break, given);
+    report(written(wrote), values)
 }
 
 // Reads the items of a whole text into words, four an item, as sise_write_calls takes them. The first value is how many items there are.
@@ -174,7 +159,11 @@ pub fn sise_write_calls(
     ensures writes { WritesCalls (style line_break.now indentation.now) words.now atoms.now buf.old answers.old result buf.new answers.new }
     ensures ran { ran.new ≡ length (calls_of words.now atoms.now (length answers.old)) ∷ [] }
 {
-    let all = write_calls(words, atoms, line_break, indentation, buf, answers);
+    let style = SerializerStyle {
+        line_break,
+        indentation,
+    };
+    let all = write_calls(words, atoms, style, buf, answers);
     *ran = [all.calls as u64];
     all.serializer.position as u64
 }

@@ -1,12 +1,13 @@
 // How an answer is reported: its number as the result, its values in the words that the caller lent.
-ghost use Rattle.std.specs.Prelude.{◌≡◌, ◌≤◌, [], ◌∷◌, MatchResult};
-ghost use Rattle.sise_tree_writer.specs.Answers.{put_as};
+ghost use Rattle.std.specs.Prelude.{◌≡◌, ◌≤◌, [], ◌∷◌, Ok, MatchResult};
+ghost use Rattle.sise_parser.specs.Refusals.{refusal};
+ghost use Rattle.sise_tree_writer.specs.Answers.{put_as, error_number};
 ghost use Rattle.sise_tree_writer.specs.Sizes.{measured_as};
-ghost use Rattle.sise_c.specs.Reports.{Reports, refusal_words, size_or, ReportsEnquiry, size_given};
+ghost use Rattle.sise_c.specs.Reports.{refusal_words, Tells, size_or, ReportsEnquiry, size_given};
 
 use sise_parser::Refusal;
 use sise_tree::Found;
-use sise_tree_writer::{Measured, PutTree};
+use sise_tree_writer::{TreeSize, TreeWrote, WriteTreeError};
 
 // What a call answers beside its result.
 pub type Values = [u64; 2];
@@ -51,41 +52,56 @@ pub(crate) fn found_words(found: Found) -> Values
     [found.index as u64, found.seen as u64]
 }
 
-pub(crate) fn report_measured(answer: Measured, size: &mut Size) -> u32
-    ensures { ReportsEnquiry (measured_as answer) result size.new }
-{
-    if let Measured::Size {
-        bytes,
-        breaks,
-        indents,
-    } = answer
-    {
-        *size = [bytes as u64, breaks as u64, indents as u64];
-        return 0;
+// A refusal that has no place, by its number.
+#[derive(Clone, Copy, Debug, PartialEq, Eq)]
+pub(crate) struct Numbered(pub(crate) u32);
+
+impl Refusal for Numbered {
+    ghost meaning = { λ e. refusal e.0 0 0 };
+
+    fn number(self) -> u32 {
+        self.0
     }
-    *size = [0, 0, 0];
-    answer.number()
+
+    fn place(self) -> usize {
+        0
+    }
+
+    fn code(self) -> u32 {
+        0
+    }
 }
 
-// The answer that three words hand over: a size.
-pub(crate) fn size_given(size: &Size) -> Measured
-    ensures { measured_as result ≡ size_given size.now }
+impl From<WriteTreeError> for Numbered {
+    ghost from_gives = { λ error e. e.0 ≡ error_number error };
+
+    fn from(error: WriteTreeError) -> Numbered {
+        Numbered(error.number())
+    }
+}
+
+// A tree that is written tells how far from the buffer's start the text goes.
+pub(crate) fn written(wrote: TreeWrote) -> Result<Values, Numbered>
+    ensures { Tells (size_or wrote.serializer.position (put_as wrote.answer)) result }
 {
-    Measured::Size {
+    wrote.answer?;
+    Ok(number_words(wrote.serializer.position))
+}
+
+pub(crate) fn measured(answer: Result<TreeSize, WriteTreeError>) -> Result<Size, Numbered>
+    ensures { MatchResult result (ReportsEnquiry (measured_as answer) 0) (λ e. ReportsEnquiry (measured_as answer) e.0 (0 ∷ 0 ∷ 0 ∷ [])) }
+{
+    let size = answer?;
+    Ok([size.bytes as u64, size.breaks as u64, size.indents as u64])
+}
+
+// The size that three words hand over.
+pub(crate) fn size_given(size: &Size) -> TreeSize
+    ensures { measured_as (Ok result) ≡ size_given size.now }
+{
+    TreeSize {
         bytes: size[0] as usize,
         breaks: size[1] as usize,
         indents: size[2] as usize,
     }
-}
-
-// A tree was written up to `position`, or refused.
-pub(crate) fn report_put(answer: PutTree, position: usize, values: &mut Values) -> u32
-    ensures { Reports (size_or position (put_as answer)) result values.new }
-{
-    if let PutTree::At(_) = answer {
-        *values = [position as u64, 0];
-        return 0;
-    }
-    *values = [0, 0];
-    answer.number()
 }

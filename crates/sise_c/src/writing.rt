@@ -2,14 +2,14 @@
 // how many of them have a line break in them, whether the list is at its beginning (0 or 1), line length, spaces, breaks and indents.
 ghost use Rattle.std.specs.Prelude.{◌≡◌, ◌≤◌, ◌<◌, ◌^◌, get_or};
 ghost use Rattle.sise_serializer.specs.Calls.{put_atom_call, begin_list_call, end_list_call, finish_call};
-ghost use Rattle.sise_serializer.specs.Serializer.{style};
+ghost use Rattle.sise_serializer.specs.Serializer.{style, style_of};
 ghost use Rattle.sise_serializer.specs.Words.{call_at};
-ghost use Rattle.sise_c.specs.Records.{writer_phase, flag_of, serializer_of, serializer_words};
-ghost use Rattle.sise_c.specs.Reports.{Reports};
+ghost use Rattle.sise_c.specs.Records.{flag_of, serializer_of, serializer_words};
+ghost use Rattle.sise_c.specs.Reports.{Reports, Tells};
 ghost use Rattle.sise_c.specs.Singly.{word_answer, call_on, Makes};
 
-use crate::report::Values;
-use sise_serializer::{Phase, Serializer, write_calls_from};
+use crate::report::{Numbered, Values, report};
+use sise_serializer::{Phase, Serializer, SerializerStyle, write_calls_from};
 
 // A writer's record in words.
 pub type WriterWords = [u64; 9];
@@ -17,19 +17,6 @@ pub type WriterWords = [u64; 9];
 // A call is made as a list of that call alone, by write_calls_from: a second caller of the writer's steps would take them out of the loop of a whole list, and
 // make that slower. This is the word of 11, which stays where the record is unsound and no call runs.
 const UNSOUND: u64 = 4294967307;
-
-// The phase of this number, if it is one's.
-fn phase_of(word: u64) -> Option<Phase>
-    ensures { result ≡ writer_phase word }
-{
-    match word {
-        0 => Some(Phase::Beginning),
-        1 => Some(Phase::Writing),
-        2 => Some(Phase::Finished),
-        3 => Some(Phase::Done),
-        _ => None,
-    }
-}
 
 fn flag_of(word: u64) -> Option<bool>
     ensures { result ≡ flag_of word }
@@ -42,11 +29,11 @@ fn flag_of(word: u64) -> Option<bool>
 }
 
 // Words mean a record if the second is a phase and the fifth a flag.
-#[tactic(auto, unfolding(crate::specs::Records::serializer_of))]
+#[tactic(auto, using(crate::proofs::RecordLaws::no_writer_phase), unfolding(crate::specs::Records::serializer_of))]
 fn writer_of(words: &WriterWords) -> Option<Serializer>
     ensures { result ≡ serializer_of words.now }
 {
-    let phase = phase_of(words[1])?;
+    let phase = Phase::try_from(words[1]).ok()?;
     let list_beginning = flag_of(words[4])?;
     Some(Serializer {
         position: words[0] as usize,
@@ -78,17 +65,15 @@ fn writer_words(w: Serializer) -> WriterWords
     ]
 }
 
-// An answer's word, as the writer's lists of calls have it: the offset, or 2 ^ 32 and the refusal's number.
-fn report_word(word: u64, values: &mut Values) -> u32
+// What an answer's word tells, as the writer's lists of calls have it: the offset, or 2 ^ 32 and the refusal's number.
+fn told(word: u64) -> Result<Values, Numbered>
     requires { word < 2 ^ 33 }
-    ensures { Reports (word_answer word) result values.new }
+    ensures { Tells (word_answer word) result }
 {
     if word < 4294967296 {
-        *values = [word, 0];
-        return 0;
+        return Ok([word, 0]);
     }
-    *values = [0, 0];
-    (word - 4294967296) as u32
+    Err(Numbered((word - 4294967296) as u32))
 }
 
 // Makes the call that four words mean, of an atom or of no bytes, with the record that a caller keeps.
@@ -96,24 +81,18 @@ fn report_word(word: u64, values: &mut Values) -> u32
 fn make_call(
     call: &[u64; 4],
     atom: &[u8],
-    line_break: &[u8],
-    indentation: &[u8],
+    style: SerializerStyle<'_>,
     buf: &mut [u8],
     record: &mut WriterWords,
-    values: &mut Values,
-) -> u32
+) -> Result<Values, Numbered>
     requires { get_or call.now 0 0 ≤ 4 }
-    ensures { Makes (call_on (call_at call.now atom.now 0) (style line_break.now indentation.now) «record».old buf.old) result values.new «record».new buf.new }
+    ensures { Makes (call_on (call_at call.now atom.now 0) (style_of style.entry) «record».old buf.old) result «record».new buf.new }
 {
-    let Some(w) = writer_of(record) else {
-        *values = [0, 0];
-        return 11;
-    };
+    let w = writer_of(record).ok_or(Numbered(11))?;
     let mut answers = [UNSOUND];
-    let ran = write_calls_from(w, call, atom, line_break, indentation, buf, &mut answers);
-    let after = ran.serializer;
-    *record = writer_words(after);
-    report_word(answers[0], values)
+    let ran = write_calls_from(w, call, atom, style, buf, &mut answers);
+    *record = writer_words(ran.serializer);
+    told(answers[0])
 }
 
 // Puts an atom. The first value is its offset.
@@ -131,8 +110,12 @@ pub fn sise_put_atom(
     ensures words { «record».new ≡ (call_on (put_atom_call atom.now break_line_at) (style line_break.now indentation.now) «record».old buf.old).words }
     ensures bytes { buf.new ≡ (call_on (put_atom_call atom.now break_line_at) (style line_break.now indentation.now) «record».old buf.old).buffer }
 {
+    let style = SerializerStyle {
+        line_break,
+        indentation,
+    };
     let call = [0, 0, atom.len() as u64, break_line_at];
-    make_call(&call, atom, line_break, indentation, buf, record, values)
+    report(make_call(&call, atom, style, buf, record), values)
 }
 
 // Begins a list. The first value is the offset of its `(`.
@@ -149,8 +132,12 @@ pub fn sise_begin_list(
     ensures words { «record».new ≡ (call_on (begin_list_call break_line_at) (style line_break.now indentation.now) «record».old buf.old).words }
     ensures bytes { buf.new ≡ (call_on (begin_list_call break_line_at) (style line_break.now indentation.now) «record».old buf.old).buffer }
 {
+    let style = SerializerStyle {
+        line_break,
+        indentation,
+    };
     let call = [1, 0, 0, break_line_at];
-    make_call(&call, b"", line_break, indentation, buf, record, values)
+    report(make_call(&call, b"", style, buf, record), values)
 }
 
 // Ends the innermost open list. The first value is the offset of its `)`.
@@ -166,8 +153,12 @@ pub fn sise_end_list(
     ensures words { «record».new ≡ (call_on end_list_call (style line_break.now indentation.now) «record».old buf.old).words }
     ensures bytes { buf.new ≡ (call_on end_list_call (style line_break.now indentation.now) «record».old buf.old).buffer }
 {
+    let style = SerializerStyle {
+        line_break,
+        indentation,
+    };
     let call = [2, 0, 0, 0];
-    make_call(&call, b"", line_break, indentation, buf, record, values)
+    report(make_call(&call, b"", style, buf, record), values)
 }
 
 // Ends the text, with a line break if wished. The first value is the text's end.
@@ -184,6 +175,10 @@ pub fn sise_finish_writing(
     ensures words { «record».new ≡ (call_on (finish_call final_break) (style line_break.now indentation.now) «record».old buf.old).words }
     ensures bytes { buf.new ≡ (call_on (finish_call final_break) (style line_break.now indentation.now) «record».old buf.old).buffer }
 {
+    let style = SerializerStyle {
+        line_break,
+        indentation,
+    };
     let call = [3 + u64::from(final_break), 0, 0, 0];
-    make_call(&call, b"", line_break, indentation, buf, record, values)
+    report(make_call(&call, b"", style, buf, record), values)
 }
