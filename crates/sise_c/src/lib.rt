@@ -87,7 +87,8 @@ pub fn sise_serialize_tree(
         line_break,
         indentation,
     };
-    let wrote = write_text(style, buf, text, table, break_line_at, final_break);
+    let tree = TreeTable { table, text };
+    let wrote = write_text(style, buf, tree, break_line_at, final_break);
     report(written(wrote), values)
 }
 
@@ -109,7 +110,8 @@ pub fn sise_measure_tree(
         line_break,
         indentation,
     };
-    let answer = measure_text(style, buf_len, text, table, break_line_at, final_break);
+    let tree = TreeTable { table, text };
+    let answer = measure_text(style, buf_len, tree, break_line_at, final_break);
     report(measured(answer), size)
 }
 
@@ -134,7 +136,8 @@ pub fn sise_commit_tree(
         indentation,
     };
     let given = Ok(size_given(size));
-    let wrote = commit_text(style, buf, text, table, break_line_at, final_break, given);
+    let tree = TreeTable { table, text };
+    let wrote = commit_text(style, buf, tree, break_line_at, final_break, given);
     report(written(wrote), values)
 }
 
