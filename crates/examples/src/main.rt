@@ -11,13 +11,7 @@ mod trees;
 mod writings;
 
 use lines::Printer;
-
-// What is written where lines end, and for each list that a line lies in.
-#[derive(Clone, Copy)]
-pub(crate) struct SerializerStyle<'a> {
-    pub(crate) line_break: &'a [u8],
-    pub(crate) indentation: &'a [u8],
-}
+use sise_serializer::SerializerStyle;
 
 // The style of all examples: lines end with a line feed, and each list indents by two spaces.
 pub(crate) const STYLE: SerializerStyle<'static> = SerializerStyle {

@@ -1,11 +1,11 @@
 // Rows of the table of refusals, and lists in each other.
 use crate::STYLE;
-use crate::line::{NotWritten, put_answer, tree_written, written};
+use crate::line::put_answer;
 use lines::Printer;
 use sise_parser::{ParseError, ParsedItem, Phase, Reader};
-use sise_serializer::{Put, Serializer};
+use sise_serializer::{Serializer, WriteError};
 use sise_tree::{PathError, TreeError, TreeTable, parse_tree};
-use sise_tree_writer::{commit_text, measure_text};
+use sise_tree_writer::{WriteTreeError, commit_text, measure_text};
 
 // Position 3 in a text of one byte.
 fn unsound() -> Result<ParsedItem, ParseError> {
@@ -38,39 +38,31 @@ fn no_tree() -> Result<usize, PathError> {
     tree.index_path(&[])
 }
 
-fn not_finished() -> Result<usize, NotWritten> {
+fn not_finished() -> Result<usize, WriteError> {
     let mut buf = [0; 1];
-    written(
-        Serializer::new()
-            .finish(STYLE.line_break, STYLE.indentation, &mut buf, true)
-            .answer,
-    )
+    Serializer::new().finish(STYLE, &mut buf, true).answer
 }
 
 // So many lists begun, one in the other: what the last begin_list answers.
-fn nested(lists: usize) -> Result<usize, NotWritten> {
+fn nested(lists: usize) -> Result<usize, WriteError> {
     let mut buf = [0; 256];
     let mut serializer = Serializer::new();
-    let mut answer = Put::NoRoom;
+    let mut answer = Err(WriteError::NoRoom);
     for _ in 0..lists {
-        let wrote = serializer.begin_list(STYLE.line_break, STYLE.indentation, &mut buf, u64::MAX);
+        let wrote = serializer.begin_list(STYLE, &mut buf, u64::MAX);
         serializer = wrote.serializer;
         answer = wrote.answer;
     }
-    written(answer)
+    answer
 }
 
-fn no_room() -> Result<usize, NotWritten> {
+fn no_room() -> Result<usize, WriteError> {
     let mut buf = [0; 1];
-    written(
-        Serializer::new()
-            .put_atom(STYLE.line_break, STYLE.indentation, &mut buf, b"ab", 0)
-            .answer,
-    )
+    Serializer::new().put_atom(STYLE, &mut buf, b"ab", 0).answer
 }
 
 // `a` measured, and then `ab` committed: request 2.2.
-fn size_changed() -> Result<usize, NotWritten> {
+fn size_changed() -> Result<usize, WriteTreeError> {
     let mut buf = [0; 2];
     let tree = TreeTable {
         text: b"a",
@@ -80,28 +72,8 @@ fn size_changed() -> Result<usize, NotWritten> {
         text: b"ab",
         table: &[1, 0, 2, 1],
     };
-    let size = measure_text(
-        STYLE.line_break,
-        STYLE.indentation,
-        2,
-        tree.text,
-        tree.table,
-        0,
-        false,
-    );
-    tree_written(
-        commit_text(
-            STYLE.line_break,
-            STYLE.indentation,
-            &mut buf,
-            changed.text,
-            changed.table,
-            0,
-            false,
-            size,
-        )
-        .answer,
-    )
+    let size = measure_text(STYLE, 2, tree, 0, false);
+    commit_text(STYLE, &mut buf, changed, 0, false, size).answer
 }
 
 pub(crate) fn put_rows(out: &mut Printer) {

@@ -33,20 +33,11 @@ fn put_paths(out: &mut Printer, tree: TreeTable<'_>) {
 // The tree on one line, in house style at 0, and in house style.
 fn put_again(out: &mut Printer, tree: TreeTable<'_>) {
     let mut buf = [0; 64];
-    let line = serialize_tree(
-        Serializer::new(),
-        STYLE.line_break,
-        STYLE.indentation,
-        &mut buf,
-        tree.text,
-        tree.table,
-        u64::MAX,
-    )
-    .serializer;
+    let line = serialize_tree(Serializer::new(), STYLE, &mut buf, tree, u64::MAX).serializer;
     put_text(out, &buf, line.position);
-    let broken = serialize_house_at(&mut buf, tree.text, tree.table, 0).serializer;
+    let broken = serialize_house_at(&mut buf, tree, 0).serializer;
     put_text(out, &buf, broken.position);
-    let house = serialize_house(&mut buf, tree.text, tree.table).serializer;
+    let house = serialize_house(&mut buf, tree).serializer;
     put_text(out, &buf, house.position);
 }
 

@@ -1,6 +1,6 @@
 // The worked writings.
 use crate::STYLE;
-use crate::line::{put_answer, put_text, written};
+use crate::line::{put_answer, put_text};
 use lines::Printer;
 use sise_serializer::{Serializer, Wrote};
 
@@ -15,21 +15,10 @@ enum Call {
 
 fn make_call(serializer: Serializer, buf: &mut [u8], call: Call) -> Wrote {
     match call {
-        Call::BeginList(break_line_at) => serializer.begin_list(
-            STYLE.line_break,
-            STYLE.indentation,
-            buf,
-            break_line_at,
-        ),
-        Call::PutAtom(atom, break_line_at) => serializer.put_atom(
-            STYLE.line_break,
-            STYLE.indentation,
-            buf,
-            atom,
-            break_line_at,
-        ),
-        Call::EndList => serializer.end_list(STYLE.line_break, STYLE.indentation, buf),
-        Call::Finish => serializer.finish(STYLE.line_break, STYLE.indentation, buf, true),
+        Call::BeginList(break_line_at) => serializer.begin_list(STYLE, buf, break_line_at),
+        Call::PutAtom(atom, break_line_at) => serializer.put_atom(STYLE, buf, atom, break_line_at),
+        Call::EndList => serializer.end_list(STYLE, buf),
+        Call::Finish => serializer.finish(STYLE, buf, true),
     }
 }
 
@@ -50,7 +39,7 @@ fn put_writing(out: &mut Printer, threshold: u64) {
     for call in calls {
         let wrote = make_call(serializer, &mut buf, call);
         serializer = wrote.serializer;
-        put_answer(out, b"offset", written(wrote.answer));
+        put_answer(out, b"offset", wrote.answer);
     }
     put_text(out, &buf, serializer.position);
 }

@@ -2,16 +2,16 @@
 ghost use Rattle.std.specs.Prelude.{◌≤◌, OnOk};
 ghost use Rattle.script.specs.Onward.{Onward};
 
-use crate::writer_case::{SerializerStyle, put_answer, put_serializer, put_written, style_of};
+use crate::writer_case::{put_answer, put_serializer, put_written, style_of};
 use lines::Printer;
 use replay_reader::{put_reader, put_refusal};
 use script::{Malformed, Script, TextCase};
 use sise_parser::{Reader, Refusal};
-use sise_serializer::Serializer;
+use sise_serializer::{Serializer, SerializerStyle};
 use sise_tree::{Found, PathError, TreeTable, parse_tree};
 use sise_tree_writer::{
-    Measured, PutTree, TreeWrote, commit_tree, measure_tree, serialize_house, serialize_house_at,
-    serialize_tree,
+    TreeSize, TreeWrote, WriteTreeError, commit_tree, measure_tree, serialize_house,
+    serialize_house_at, serialize_tree,
 };
 
 // The line of all words of the table.
@@ -55,34 +55,23 @@ fn store(table: &mut [u32], numbers: &[u64]) {
     }
 }
 
-fn answer_of(answer: PutTree) -> Result<usize, u32> {
-    match answer {
-        PutTree::At(offset) => Ok(offset),
-        _ => Err(answer.number()),
-    }
-}
-
 // The lines of a call that wrote a tree.
 fn put_wrote(out: &mut Printer, buf: &[u8], wrote: TreeWrote) {
-    put_answer(out, b'@', answer_of(wrote.answer));
+    put_answer(out, b'@', wrote.answer);
     put_serializer(out, wrote.serializer);
     out.put_byte(b'\n');
     put_written(out, buf, wrote.serializer.position);
 }
 
 // The line of an enquiry.
-fn put_size(out: &mut Printer, size: Measured) {
+fn put_size(out: &mut Printer, size: Result<TreeSize, WriteTreeError>) {
     match size {
-        Measured::Size {
-            bytes,
-            breaks,
-            indents,
-        } => {
-            out.put_letter(b'%', bytes);
-            out.put_number(breaks);
-            out.put_number(indents);
+        Ok(size) => {
+            out.put_letter(b'%', size.bytes);
+            out.put_number(size.breaks);
+            out.put_number(size.indents);
         }
-        _ => out.put_letter(b'!', size.number() as usize),
+        Err(error) => out.put_letter(b'!', error.number() as usize),
     }
     out.put_byte(b'\n');
 }
@@ -101,17 +90,9 @@ impl Writing<'_> {
     fn open_lists(self, buf: &mut [u8]) -> Serializer {
         let mut serializer = Serializer::new();
         for _ in 0..self.lists {
+            serializer = serializer.begin_list(self.style, buf, u64::MAX).serializer;
             serializer = serializer
-                .begin_list(self.style.line_break, self.style.indentation, buf, u64::MAX)
-                .serializer;
-            serializer = serializer
-                .put_atom(
-                    self.style.line_break,
-                    self.style.indentation,
-                    buf,
-                    b"h",
-                    u64::MAX,
-                )
+                .put_atom(self.style, buf, b"h", u64::MAX)
                 .serializer;
         }
         serializer
@@ -121,15 +102,7 @@ impl Writing<'_> {
     fn put_trees(self, out: &mut Printer, buf: &mut [u8], times: usize) {
         let mut serializer = self.open_lists(buf);
         for _ in 0..times {
-            let wrote = serialize_tree(
-                serializer,
-                self.style.line_break,
-                self.style.indentation,
-                buf,
-                self.tree.text,
-                self.tree.table,
-                self.break_line_at,
-            );
+            let wrote = serialize_tree(serializer, self.style, buf, self.tree, self.break_line_at);
             serializer = wrote.serializer;
             put_wrote(out, buf, wrote);
         }
@@ -138,10 +111,10 @@ impl Writing<'_> {
     // Writes the tree in house style at 0, at the case's threshold, and at its own.
     fn put_houses(self, out: &mut Printer, buf: &mut [u8]) {
         for break_line_at in [0, self.break_line_at] {
-            let wrote = serialize_house_at(buf, self.tree.text, self.tree.table, break_line_at);
+            let wrote = serialize_house_at(buf, self.tree, break_line_at);
             put_wrote(out, buf, wrote);
         }
-        let wrote = serialize_house(buf, self.tree.text, self.tree.table);
+        let wrote = serialize_house(buf, self.tree);
         put_wrote(out, buf, wrote);
     }
 
@@ -149,24 +122,14 @@ impl Writing<'_> {
     fn put_commits(self, out: &mut Printer, buf: &mut [u8]) {
         let mut serializer = self.open_lists(buf);
         let room = buf.len();
-        let size = measure_tree(
-            serializer,
-            self.style.line_break,
-            self.style.indentation,
-            room,
-            self.tree.text,
-            self.tree.table,
-            self.break_line_at,
-        );
+        let size = measure_tree(serializer, self.style, room, self.tree, self.break_line_at);
         put_size(out, size);
-        for size in [Measured::NoRoom, size, size] {
+        for size in [Err(WriteTreeError::NoRoom), size, size] {
             let wrote = commit_tree(
                 serializer,
-                self.style.line_break,
-                self.style.indentation,
+                self.style,
                 buf,
-                self.tree.text,
-                self.tree.table,
+                self.tree,
                 self.break_line_at,
                 size,
             );
@@ -200,7 +163,7 @@ fn put_found(out: &mut Printer, found: Result<Found, PathError>) {
 
 // The line of a path, which index_path and find_path follow.
 fn put_path(out: &mut Printer, tree: TreeTable<'_>, path: &[u64]) {
-    put_answer(out, b'#', tree.index_path(path).map_err(PathError::number));
+    put_answer(out, b'#', tree.index_path(path));
     out.put_bytes(b" | ");
     put_found(out, tree.find_path(path));
     out.put_byte(b'\n');

@@ -4,27 +4,14 @@ ghost use Rattle.script.specs.Onward.{Onward};
 
 use lines::Printer;
 use script::{Call, Malformed, Script, WriterCase};
-use sise_serializer::{Put, Serializer, Wrote};
-
-// What is written where lines end, and for each list that a line lies in.
-#[derive(Clone, Copy)]
-pub(crate) struct SerializerStyle<'a> {
-    pub(crate) line_break: &'a [u8],
-    pub(crate) indentation: &'a [u8],
-}
-
-fn answer_of(answer: Put) -> Result<usize, u32> {
-    match answer {
-        Put::At(offset) => Ok(offset),
-        _ => Err(answer.number()),
-    }
-}
+use sise_parser::Refusal;
+use sise_serializer::{Serializer, SerializerStyle, Wrote};
 
 // A value behind its mark, or a refusal's number.
-pub(crate) fn put_answer(out: &mut Printer, mark: u8, answer: Result<usize, u32>) {
+pub(crate) fn put_answer<E: Refusal>(out: &mut Printer, mark: u8, answer: Result<usize, E>) {
     match answer {
         Ok(value) => out.put_letter(mark, value),
-        Err(number) => out.put_letter(b'!', number as usize),
+        Err(error) => out.put_letter(b'!', error.number() as usize),
     }
 }
 
@@ -49,7 +36,7 @@ pub(crate) fn put_serializer(out: &mut Printer, serializer: Serializer) {
 
 // The line of a call.
 fn put_call(out: &mut Printer, wrote: Wrote) {
-    put_answer(out, b'@', answer_of(wrote.answer));
+    put_answer(out, b'@', wrote.answer);
     put_serializer(out, wrote.serializer);
     out.put_byte(b'\n');
 }
@@ -80,26 +67,10 @@ fn make_call(
         Call::PutAtom {
             atom,
             break_line_at,
-        } => serializer.put_atom(
-            style.line_break,
-            style.indentation,
-            buf,
-            atom,
-            break_line_at,
-        ),
-        Call::BeginList { break_line_at } => serializer.begin_list(
-            style.line_break,
-            style.indentation,
-            buf,
-            break_line_at,
-        ),
-        Call::EndList => serializer.end_list(style.line_break, style.indentation, buf),
-        Call::Finish { line_break } => serializer.finish(
-            style.line_break,
-            style.indentation,
-            buf,
-            line_break,
-        ),
+        } => serializer.put_atom(style, buf, atom, break_line_at),
+        Call::BeginList { break_line_at } => serializer.begin_list(style, buf, break_line_at),
+        Call::EndList => serializer.end_list(style, buf),
+        Call::Finish { line_break } => serializer.finish(style, buf, line_break),
     }
 }
 
