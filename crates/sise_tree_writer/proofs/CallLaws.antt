@@ -37,11 +37,6 @@ checked_atom text p m h =
     let z : m ≡ 0 = omega (arith, leb-false (p + m) (length text) e, length-drop p text) in
     absurd (false≢true (ap (λ (k : ℕ). is_atom (take k (drop p text))) (sym z) ∙ and_second (leb m (length (drop p text))) _ h)))
 
--- no bytes of a text
-pub part_none : (text : List ℕ) → part_of text 0 0 ≡ []
-unfolding part_of
-part_none text = split (leb (0 + 0) (length text)) (λ e. rw (e, part_of)) (λ e. rw (e, part_of))
-
 -- ---- fitting, call by call
 
 module _ (s : Style) (room : ℕ) (w : Serializer) (c : Call) (cs : List Call) where

@@ -51,15 +51,6 @@ module _ (s : Style) (room : ℕ) (f : Call) where
       last-true false = refl
   fits_more w (c ∷ cs) = split (is_accepted (step s room w c).answer) (λ y. rw y (fits_more (step s room w c).serializer cs)) (λ y. rw y)
 
--- calls that fit keep the buffer's length
-run_long : (s : Style) (w : Serializer) (cs : List Call) (b : List ℕ) → fits s (length b) w cs ≡ true → length (run s b w cs).buffer ≡ length b
-unfolding run
-run_long s w [] b y = refl
-run_long s w (c ∷ cs) b y =
-    let (o, e, more) = fits_first s (length b) w c cs y in
-    let long = accepted_keeps s b w c e in
-    run_long s (step s (length b) w c).serializer cs (pasted b w.position (step s (length b) w c).bytes) (rw long more) ∙ long
-
 -- the buffer after one call more
 run_more : (s : Style) (w : Serializer) (cs : List Call) (f : Call) (b : List ℕ) → fits s (length b) w cs ≡ true
     → (run s b w (cs ++ f ∷ [])).buffer ≡ pasted (run s b w cs).buffer (after s (length b) w cs).position (step s (length b) (after s (length b) w cs) f).bytes
