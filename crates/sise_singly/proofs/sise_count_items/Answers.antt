@@ -70,10 +70,10 @@ pub loop-count-init : goal.loop-count-init
 loop-count-init c = start _ _ c.new-reader.ensures
 
 pub returns-in_default : goal.returns-in_default
-returns-in_default c = stopped _ _ c.loop-count.invariant c.loop-count-test.true _ c.next_item-next.ensures c.in_default.is
+returns-in_default c = stopped _ _ c.loop-count.invariant (omega arith) _ c.next_item-next.ensures c.in_default.is
 
 pub loop-count-preserved : goal.loop-count-preserved
-loop-count-preserved c = on _ _ c.loop-count.invariant c.loop-count-test.true _ c.next_item-next.ensures c.in-Ok.is
+loop-count-preserved c = on _ _ c.loop-count.invariant (omega arith) _ c.next_item-next.ensures c.in-Ok.is
 
 pub returns : goal.returns
 returns c = ended _ _ c.loop-count.invariant (omega arith)
