@@ -84,10 +84,9 @@ pub fn paste_line(buf: &mut [u8], at: usize, style: SerializerStyle<'_>, times: 
     sise_serializer::paste_line(buf, at, style, times);
 }
 
-// The space before an item that stays in its line, unless it joins what is before it.
+// The space before an item that stays in its line, unless it joins what is before it, if it has room.
 pub fn write_gap(buf: &mut [u8], at: usize, joins: bool)
-    requires { at + length (gap_bytes joins) ≤ length buf.old }
-    ensures { buf.new ≡ pasted buf.old at (gap_bytes joins) }
+    ensures { buf.new ≡ pasted_if buf.old at (gap_bytes joins) }
 {
     sise_serializer::write_gap(buf, at, joins);
 }

@@ -5,10 +5,11 @@ use native.Mathlib.Nat.{zero-mul, suc-mul, suc-add, zero-add, add_assoc}
 use native.Mathlib.Numerals.{add-one}
 use native.Mathlib.Omega.{arith}
 use borrow.Rule.Slice.PartMut.{put_mid}
-use Rattle.std.specs.Prelude.{All, replicate}
+use Rattle.std.specs.Prelude.{All, leb, replicate}
 use Rattle.std.proofs.lemmas.List.Elements.{All-head, All-tail}
 use Rattle.std.proofs.lemmas.Slice.{put_mid-paste}
 use mathlib.Core.Path.{◌≡◌, refl, sym, ap, ◌∙◌}
+use mathlib.Core.Bool.{Bool, true, false, cond}
 use mathlib.Core.List.{List, [], ◌∷◌, ◌++◌, append_assoc, append-nil}
 use lib.ListN.{length, set, take, drop, length-append, length-take, length-drop}
 use lib.Seq.{paste, paste-zero, take-length, take_at, drop_at, drop-drop, set_split}
@@ -96,6 +97,15 @@ module _ (l : List ℕ) (at : ℕ) (b : List ℕ) where
   pub pasted_not : length l < at + length b → pasted_if l at b ≡ l
   unfolding pasted_if
   pasted_not h = rw (lt-leb (at + length b) (length l) h)
+
+-- nothing to write: all stays, with room or without
+either : (b : Bool) (l : List ℕ) → cond b l l ≡ l
+either true l = refl
+either false l = refl
+
+pub pasted_if_none : (l : List ℕ) (at : ℕ) → pasted_if l at [] ≡ l
+unfolding pasted_if
+pasted_if_none l at = rw (pasted_none l at, either (leb (at + 0) (length l)) l)
 
 -- one byte
 pub pasted_one : (l : List ℕ) (at b : ℕ) → at < length l → set l at b ≡ pasted l at (b ∷ [])

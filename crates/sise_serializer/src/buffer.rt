@@ -117,16 +117,6 @@ pub(crate) fn write_line(
     copies(buf, at + style.line_break.len(), times, style.indentation)
 }
 
-// The space before an item that stays in its line, unless it joins what is before it.
-pub fn write_gap(buf: &mut [u8], at: usize, joins: bool)
-    requires { at + length (gap_bytes joins) ≤ length buf.old }
-    ensures { buf.new ≡ pasted buf.old at (gap_bytes joins) }
-{
-    if !joins {
-        buf[at] = 32;
-    }
-}
-
 // ---- for callers in other crates: bytes are copied where they have room, and nothing otherwise
 
 // Copies `src` to the bytes of `buf` that begin at `at`.
@@ -140,6 +130,15 @@ pub fn paste(buf: &mut [u8], at: usize, src: &[u8])
         return;
     }
     copy(buf, at, src);
+}
+
+// The space before an item that stays in its line, unless it joins what is before it.
+pub fn write_gap(buf: &mut [u8], at: usize, joins: bool)
+    ensures { buf.new ≡ pasted_if buf.old at (gap_bytes joins) }
+{
+    if !joins {
+        paste(buf, at, b" ");
+    }
 }
 
 // Copies a line break and `times` indentations.

@@ -13,6 +13,7 @@ use Rattle.sise_serializer.specs.declared.buffer.Spot.{Spot}
 use Rattle.sise_serializer.specs.declared.serializer.Serializer.{Serializer}
 use Rattle.sise_serializer.specs.declared.serializer.WriteError.{WriteError}
 use Rattle.sise_serializer.proofs.Sound.{small}
+use Rattle.sise_serializer.proofs.Bytes.{pasted_if_lem}
 use Rattle.sise_serializer.proofs.Spots.{find_as}
 use Rattle.sise_serializer.proofs.Tests.{one_at_most, counted, gap_short, gap_counted}
 use Rattle.sise_serializer.proofs.Does.{spotted, placed_behind, full}
@@ -30,14 +31,6 @@ returns-in_err-spot g c =
     let a = c.args in
     let d = gap_counted a.w.serializer.list_beginning c.from-lead.ensures in
     full _ _ (in_line a.w.serializer (g.T.Token.bytes a.token) g.T.Token.is_list (gap_bytes a.w.serializer.list_beginning)) (spot a.w.serializer (g.T.Token.bytes a.token) a.buf.now g.T.Token.is_list c.find.ensures d c.len-len.ensures) _ c.in_err-spot.was c.from_residual.ensures.1
-
-pub write_gap-requires : goal.write_gap-requires
-unfolding in_line
-write_gap-requires g c =
-    let a = c.args in
-    let d = gap_counted a.w.serializer.list_beginning c.from-lead.ensures in
-    let f = spotted a.w.serializer a.buf.now (in_line a.w.serializer (g.T.Token.bytes a.token) g.T.Token.is_list (gap_bytes a.w.serializer.list_beginning)) (spot a.w.serializer (g.T.Token.bytes a.token) a.buf.now g.T.Token.is_list c.find.ensures d c.len-len.ensures) c.in_ok-spot.was in
-    omega (arith, f.in_room)
 
 pub put-requires : goal.put-requires
 unfolding in_line
@@ -74,6 +67,7 @@ unfolding in_line
 returns g c =
     let a = c.args in
     let d = gap_counted a.w.serializer.list_beginning c.from-lead.ensures in
+    let f = spotted a.w.serializer a.buf.now (in_line a.w.serializer (g.T.Token.bytes a.token) g.T.Token.is_list (gap_bytes a.w.serializer.list_beginning)) (spot a.w.serializer (g.T.Token.bytes a.token) a.buf.now g.T.Token.is_list c.find.ensures d c.len-len.ensures) c.in_ok-spot.was in
     placed_behind a.w.serializer a.buf.now (in_line a.w.serializer (g.T.Token.bytes a.token) g.T.Token.is_list (gap_bytes a.w.serializer.list_beginning)) (spot a.w.serializer (g.T.Token.bytes a.token) a.buf.now g.T.Token.is_list c.find.ensures d c.len-len.ensures) c.in_ok-spot.was
-    c.write_gap.ensures c.put.ensures
+    (c.write_gap.ensures ∙ pasted_if_lem a.buf.now a.w.serializer.position (gap_bytes a.w.serializer.list_beginning) (omega (arith, f.in_room))) c.put.ensures
     (λ e. rw (e, counted g.T.Token.is_list a.w.serializer.lists (c.from.ensures ∙ ap bool_byte c.is_list.ensures), d, c.len-len.ensures, c.is_list-2.ensures))

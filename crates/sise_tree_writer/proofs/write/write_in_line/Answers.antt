@@ -1,17 +1,13 @@
 -- A space or nothing, and the token, stand at the position, and the record has them counted.
 use native.Mathlib.Omega.{arith}
-use mathlib.Core.Path.{ap}
+use mathlib.Core.Path.{ap, ◌∙◌}
 use Prim.Native.Nat.{ℕ, ◌+◌}
 use Rattle.sise_serializer.specs.Parts.{in_line, gap_bytes}
-use Rattle.sise_serializer.proofs.Bytes.{pasted_behind}
+use Rattle.sise_serializer.proofs.Bytes.{pasted_behind, pasted_if_lem}
 use Rattle.sise_serializer.proofs.Sound.{small}
 use Rattle.sise_serializer.proofs.Tests.{one_at_most, counted, gap_short, gap_counted}
 use Rattle.sise_tree_writer.specs.Planning.{token_of}
 use Rattle.sise_tree_writer.proofs.write.write_in_line.Goals as goal
-
-pub write_gap-requires : goal.write_gap-requires
-unfolding in_line
-write_gap-requires c = omega (arith, c.requires.inside)
 
 pub overflow_add-at : goal.overflow_add-at
 unfolding in_line
@@ -51,5 +47,5 @@ returns c =
     let d = gap_counted a.w.serializer.list_beginning c.from-lead.ensures in
     record {
       serializer = rw (d, c.token_len-token.ensures, counted a.is_list a.w.serializer.lists c.from.ensures);
-      buffer = pasted_behind a.buf.now a.w.serializer.position (gap_bytes a.w.serializer.list_beginning) (token_of a.is_list a.atom.now) c.write_gap.ensures (ap (λ (n : ℕ). a.w.serializer.position + n) d) c.write_token.ensures (omega (arith, c.requires.inside));
+      buffer = pasted_behind a.buf.now a.w.serializer.position (gap_bytes a.w.serializer.list_beginning) (token_of a.is_list a.atom.now) (c.write_gap.ensures ∙ pasted_if_lem a.buf.now a.w.serializer.position (gap_bytes a.w.serializer.list_beginning) (omega (arith, c.requires.inside))) (ap (λ (n : ℕ). a.w.serializer.position + n) d) c.write_token.ensures (omega (arith, c.requires.inside));
     }
