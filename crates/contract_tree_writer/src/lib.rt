@@ -18,7 +18,7 @@ use sise_tree_writer::{TreeSize, TreeWrote, WriteTreeError, answer_number};
 
 // ---- serialize.rt
 
-// Writes the tree that the table holds over `text`, where the writer stands.
+// Writes the tree that `tree` holds, where the writer stands.
 pub fn serialize_tree(
     serializer: Serializer,
     style: SerializerStyle<'_>,
@@ -83,7 +83,7 @@ pub fn measured_number(measured: Result<TreeSize, WriteTreeError>) -> u32
 
 // ---- whole.rt
 
-// Writes a whole text: the tree that the table holds over `text`, and a line break behind it if wished.
+// Writes a whole text: the tree that `tree` holds, and a line break behind it if wished.
 pub fn write_text(
     style: SerializerStyle<'_>,
     buf: &mut [u8],

@@ -161,7 +161,7 @@ pub fn skip_blanks(text: &[u8], from: usize) -> usize
     at
 }
 
-// The end of the run of atom characters that begins at `start`. It counts by hand too.
+// The end of the run of atom characters that begins at `start`. It counts by hand too, for the same reason.
 pub fn atom_run(text: &[u8], start: usize) -> usize
     ensures same { result ≡ atom_run (drop start text.now) start }
     ensures after { start ≤ result }

@@ -5,7 +5,7 @@ use native.Mathlib.Nat.{zero-mul, suc-mul, suc-add, zero-add, add_assoc}
 use native.Mathlib.Numerals.{add-one}
 use native.Mathlib.Omega.{arith}
 use borrow.Rule.Slice.PartMut.{put_mid}
-use Rattle.std.specs.Prelude.{All, leb, replicate}
+use Rattle.std.specs.Prelude.{All, leb, get_or, replicate}
 use Rattle.std.proofs.lemmas.List.Elements.{All-head, All-tail}
 use Rattle.std.proofs.lemmas.Slice.{put_mid-paste}
 use mathlib.Core.Path.{◌≡◌, refl, sym, ap, ◌∙◌}
@@ -111,6 +111,11 @@ pasted_if_none l at = rw (pasted_none l at, either (leb (at + 0) (length l)) l)
 pub pasted_one : (l : List ℕ) (at b : ℕ) → at < length l → set l at b ≡ pasted l at (b ∷ [])
 unfolding pasted
 pasted_one l at b h = set_split l at b h ∙ ap (λ (k : ℕ). take at l ++ b ∷ drop k l) (sym (add-one at)) ∙ sym (append_assoc (take at l) (b ∷ []) (drop (at + 1) l))
+
+pub pasted_single : (l : List ℕ) (at : ℕ) (b : List ℕ) → at < length l → length b ≡ 1 → set l at (get_or b 0 0) ≡ pasted l at b
+pasted_single l at [] h e = absurd (omega arith)
+pasted_single l at (x ∷ []) h e = pasted_one l at x h
+pasted_single l at (x ∷ y ∷ b) h e = absurd (omega arith)
 
 -- bytes written right behind others
 pub pasted_behind : (l : List ℕ) (at : ℕ) (a b : List ℕ) {m now : List ℕ} {to : ℕ} → m ≡ pasted l at a → to ≡ at + length a → now ≡ pasted m to b → at + length a ≤ length l

@@ -13,6 +13,7 @@ pub mod FindTree
 pub mod FindReads
 pub mod ReadSteps
 pub mod ParseSteps
+pub mod PlainKinds
 pub mod FillingLaws
 pub mod FillingParts
 pub mod Counting

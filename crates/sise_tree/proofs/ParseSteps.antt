@@ -1,4 +1,4 @@
--- Where the reading of a node stands, and how an item takes it on; a plain token is the item that the reader would give.
+-- Where the reading of a node stands, and how an item takes it on.
 -- Assumes nothing.
 use Prim.Native.Nat.{ℕ, ◌+◌}
 use native.Mathlib.Omega.{arith}

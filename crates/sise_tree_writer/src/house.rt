@@ -15,7 +15,7 @@ const HOUSE_STYLE: SerializerStyle<'static> = SerializerStyle {
     indentation: b"  ",
 };
 
-// Writes a whole text in house style at a threshold: the tree that the table holds over `text`, and the line break at its end. 0 breaks every line.
+// Writes a whole text in house style at a threshold: the tree that `tree` holds, and the line break at its end. 0 breaks every line.
 pub fn serialize_house_at(buf: &mut [u8], tree: TreeTable<'_>, break_line_at: u64) -> TreeWrote
     ensures { DoesWrite (house_at break_line_at buf.old tree.entry.text.now tree.entry.table.now) result buf.new }
 {

@@ -1,4 +1,6 @@
-// The record behind a call of the writer in a buffer of so many bytes, with no byte written; none if the call is refused. Atoms were checked before.
+// The record behind a call of the writer in a buffer of so many bytes, with no byte written; none if the call is refused. Atoms were checked before. The steps are
+// those of sise_serializer's serializer.rt and have leaves of their own here: one walk that plans and writes by the same functions was built and was too slow
+// (docs/DECISIONS.md).
 ghost use Rattle.std.specs.Prelude.{◌≡◌, true, false, ◌||◌, [], ◌+◌, ◌<◌, length};
 ghost use Rattle.sise_util.specs.Atom.{is_atom};
 ghost use Rattle.sise_serializer.specs.Serializer.{style, style_of, place, new_line, inner_as, close_as, last};

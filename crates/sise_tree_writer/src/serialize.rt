@@ -163,7 +163,7 @@ pub fn commit_tree(
     wrote(serializer, planned)
 }
 
-// Writes the tree that the table holds over `text`. The first child of each list, if an atom, stays on the line of the `(`, and everything else goes on
+// Writes the tree that `tree` holds. The first child of each list, if an atom, stays on the line of the `(`, and everything else goes on
 // a new line if the line is at least `break_line_at` bytes long. A refusal writes nothing and leaves the record.
 pub fn serialize_tree(
     serializer: Serializer,

@@ -93,7 +93,7 @@ pub fn commit_text(
     wrote(fresh, planned)
 }
 
-// Writes a whole text: the tree that the table holds over `text`, and a line break behind it if wished.
+// Writes a whole text: the tree that `tree` holds, and a line break behind it if wished.
 pub fn write_text(
     style: SerializerStyle<'_>,
     buf: &mut [u8],

@@ -3,7 +3,7 @@
 use mathlib.Core.Path.{◌≡◌, refl, sym, ap, ◌∙◌}
 use mathlib.Core.Bool.{true, false}
 use mathlib.Core.List.{List, [], ◌∷◌}
-use Prim.Native.Nat.{ℕ, zero, suc, ◌+◌, ◌≤◌, ◌<◌, zero-le}
+use Prim.Native.Nat.{ℕ, zero, suc, ◌+◌, ◌≤◌, ◌<◌}
 use lib.Dec.{eqb}
 use native.Mathlib.Omega.{arith}
 use native.Mathlib.Numerals.{add-one}
@@ -11,9 +11,7 @@ use lib.ListN.{length, take, drop, get_or, drop_of_length-le}
 use lib.Seq.{take-length}
 use Rattle.sise_util.specs.Chars.{is_atom_chr}
 use Rattle.sise_util.specs.Atom.{outside, is_atom, all_atom_chrs, has_quote, is_string, kind_of}
-use Rattle.std.specs.Prelude.{Option, Some, None, MatchOption}
-use Rattle.std.specs.List.{AllWithin, HoldsAt}
-use Rattle.std.specs.Option.{unwrap_or}
+use Rattle.std.specs.Prelude.{Some}
 use Rattle.sise_util.specs.declared.util.AtomKind.TheVariants.{Plain}
 use Rattle.sise_util.specs.Parts.{PlainTo}
 use Rattle.sise_util.proofs.Ranges.{both, and_first, and_second}
@@ -63,14 +61,3 @@ all_plain s h a =
 
 pub plain_all : {s : List ℕ} {n : ℕ} → PlainTo s n → (n ≡ 0 → ⊥) → n ≡ length s → Some Plain ≡ kind_of s
 plain_all {s} {n} p z e = all_plain s (λ y. z (e ∙ y)) (sym (ap all_atom_chrs (ap (λ (m : ℕ). take m s) e ∙ take-length s)) ∙ p.chrs)
-
--- a run of them, as a search of the bytes finds it
-plain_within : (s : List ℕ) (n : ℕ) → n ≤ length s → AllWithin (λ (b : ℕ). is_atom_chr b ≡ true) s 0 n → PlainTo s n
-plain_within s zero h a = record { within = h; chrs = refl }
-plain_within s (suc n) h a = rw (← add-one) (plain_on (plain_within s n (omega arith) (λ k d l m. a k d l (omega arith))) (omega arith) (a n 0 zero-le (omega arith)))
-
-pub plain_found : (s : List ℕ) (r : Option ℕ)
-    → MatchOption r (AllWithin (λ (b : ℕ). is_atom_chr b ≡ true) s 0 (length s)) (λ i. (i < length s) × HoldsAt (λ (b : ℕ). is_atom_chr b ≡ false) s i × AllWithin (λ (b : ℕ). is_atom_chr b ≡ true) s 0 i)
-    → PlainTo s (unwrap_or r (length s))
-plain_found s (Some i) (h, q, a) = plain_within s i (omega arith) a
-plain_found s None a = plain_within s (length s) (omega arith) a
