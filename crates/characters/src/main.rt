@@ -8,88 +8,67 @@
 
 ghost use Rattle.std.specs.Prelude.{◌<◌};
 
-use lines::Block;
+use lines::Printer;
 use sise_util::classes::class_of;
-use sise_util::{AtomKind, Character};
+use sise_util::{AtomKind, Character, IllFormed, character_at, check_atom, check_atom_prefix};
 
-fn put_answer(out: &mut Block, at: usize, yes: bool) -> usize {
-    if yes {
-        lines::put_byte(out, at, b'1')
-    } else {
-        lines::put_byte(out, at, b'0')
-    }
+fn bit(yes: bool) -> u8 {
+    if yes { b'1' } else { b'0' }
 }
 
 // 1, 2 or 3, and 0 for no atom.
-fn put_kind(out: &mut Block, at: usize, kind: AtomKind) -> usize {
-    lines::put_decimal(out, at, kind.number() as u64)
+fn put_kind(out: &mut Printer, kind: Option<AtomKind>) {
+    out.put_decimal(sise_util::kind_number(kind) as u64);
 }
 
-fn put_length(out: &mut Block, at: usize, len: usize) -> usize {
-    let next = lines::put_byte(out, at, b'/');
-    lines::put_decimal(out, next, len as u64)
+fn put_length(out: &mut Printer, len: usize) {
+    out.put_byte(b'/');
+    out.put_decimal(len as u64);
 }
 
-fn put_character(out: &mut Block, at: usize, found: Character) -> usize {
-    let next = lines::put_byte(out, at, b' ');
+fn put_character(out: &mut Printer, found: Result<Character, IllFormed>) {
+    out.put_byte(b' ');
     match found {
-        Character::Well { code, len } => {
-            let next = lines::put_decimal(out, next, code as u64);
-            put_length(out, next, len)
+        Ok(Character { code, len }) => {
+            out.put_decimal(code as u64);
+            put_length(out, len);
         }
-        Character::Ill { len } => {
-            let next = lines::put_byte(out, next, b'-');
-            put_length(out, next, len)
+        Err(IllFormed { len }) => {
+            out.put_byte(b'-');
+            put_length(out, len);
         }
     }
 }
 
-fn put_byte_line(out: &mut Block, at: usize, chr: u8) -> usize {
-    let at = lines::put_decimal(out, at, chr as u64);
-    let at = lines::put_byte(out, at, b' ');
-    let at = lines::put_decimal(out, at, class_of(chr) as u64);
-    let at = lines::put_byte(out, at, b' ');
-    let at = put_answer(out, at, sise_util::is_atom_chr(chr));
-    let at = put_answer(out, at, sise_util::is_atom_string_chr(chr));
-    lines::put_byte(out, at, b'\n')
+fn put_byte_line(out: &mut Printer, chr: u8) {
+    out.put_decimal(chr as u64);
+    out.put_number(class_of(chr) as usize);
+    out.put_byte(b' ');
+    out.put_byte(bit(sise_util::is_atom_chr(chr)));
+    out.put_byte(bit(sise_util::is_atom_string_chr(chr)));
+    out.put_byte(b'\n');
 }
 
 // What check_atom_prefix says of each length, one past the case last.
-fn put_prefixes(out: &mut Block, from: usize, case: &[u8]) -> usize {
-    let mut at = from;
-    let mut len = 0;
-    while len <= case.len() {
-        at = put_kind(out, at, sise_util::check_atom_prefix(case, len));
-        len += 1;
+fn put_prefixes(out: &mut Printer, case: &[u8]) {
+    for len in 0..=case.len() + 1 {
+        put_kind(out, check_atom_prefix(case, len));
     }
-    put_kind(out, at, sise_util::check_atom_prefix(case, len))
 }
 
 // The character at each place, one past the case last.
-fn put_characters(out: &mut Block, from: usize, case: &[u8]) -> usize {
-    let mut at = from;
-    let mut place = 0;
-    while place <= case.len() {
-        at = put_character(out, at, sise_util::character_at(case, place));
-        place += 1;
+fn put_characters(out: &mut Printer, case: &[u8]) {
+    for place in 0..=case.len() + 1 {
+        put_character(out, character_at(case, place));
     }
-    put_character(out, at, sise_util::character_at(case, place))
 }
 
-fn put_case_line(out: &mut Block, at: usize, case: &[u8]) -> usize {
-    let at = put_kind(out, at, sise_util::check_atom(case));
-    let at = lines::put_byte(out, at, b' ');
-    let at = put_prefixes(out, at, case);
-    let at = put_characters(out, at, case);
-    lines::put_byte(out, at, b'\n')
-}
-
-// The same of a case that is the first `len` bytes.
-fn put_case_part(out: &mut Block, at: usize, bytes: &[u8], len: usize) -> usize {
-    if bytes.len() < len {
-        return at;
-    }
-    put_case_line(out, at, &bytes[..len])
+fn put_case_line(out: &mut Printer, case: &[u8]) {
+    put_kind(out, check_atom(case));
+    out.put_byte(b' ');
+    put_prefixes(out, case);
+    put_characters(out, case);
+    out.put_byte(b'\n');
 }
 
 fn digit_value(digit: u8) -> u8
@@ -102,68 +81,37 @@ fn digit_value(digit: u8) -> u8
     }
 }
 
-#[derive(Clone, Copy)]
-struct Case {
-    bytes: [u8; 64],
-    len: usize,
+// Puts the bytes that the digits stand for, two for each byte, at the start of the buffer, and answers them.
+fn read_hexadecimal<'a>(digits: &[u8], bytes: &'a mut [u8; 64]) -> &'a [u8] {
+    for (byte, pair) in bytes.iter_mut().zip(digits.chunks_exact(2)) {
+        *byte = digit_value(pair[0]) * 16 + digit_value(pair[1]);
+    }
+    &bytes[..std::cmp::min(64, digits.len() / 2)]
 }
 
-// The bytes of a line in hexadecimal after its `x`, 64 at most.
-fn read_hexadecimal(line: &[u8]) -> Case {
-    let mut bytes = [0u8; 64];
-    let mut len = 0;
-    while len < 64 {
-        if line.len() <= 2 * len + 2 {
-            return Case { bytes, len };
-        }
-        let high = digit_value(line[2 * len + 1]);
-        bytes[len] = high * 16 + digit_value(line[2 * len + 2]);
-        len += 1;
+fn run_case(out: &mut Printer, line: &[u8]) {
+    match line {
+        [b'x', digits @ ..] => put_case_line(out, read_hexadecimal(digits, &mut [0; 64])),
+        _ => put_case_line(out, line),
     }
-    Case { bytes, len }
-}
-
-fn run_case(out: &mut Block, at: usize, line: &[u8]) -> usize {
-    if line.len() == 0 || line[0] != b'x' {
-        return put_case_line(out, at, line);
-    }
-    let case = read_hexadecimal(line);
-    let bytes = case.bytes;
-    put_case_part(out, at, &bytes, case.len)
 }
 
 // Runs each line that ends in the text.
-fn run_cases(out: &mut Block, from: usize, text: &[u8]) -> usize {
-    let mut at = from;
-    let mut start = 0;
-    let mut end = 0;
-    while end < text.len() {
-        if text[end] == b'\n' {
-            at = run_case(out, at, &text[start..end]);
-            start = end + 1;
+fn run_cases(out: &mut Printer, text: &[u8]) {
+    for line in text.split_inclusive(|&byte| byte == b'\n') {
+        if let [case @ .., b'\n'] = line {
+            run_case(out, case);
         }
-        end += 1;
-    }
-    at
-}
-
-fn run_bytes(out: &mut Block, from: usize) -> usize {
-    let mut at = from;
-    let mut chr: u8 = 0;
-    loop {
-        at = put_byte_line(out, at, chr);
-        if chr == 255 {
-            return at;
-        }
-        chr += 1;
     }
 }
 
 fn main() {
-    let mut out = io::buffer();
-    let at = run_bytes(&mut out, 0);
+    let mut out = Printer::new();
+    for chr in 0..=255 {
+        put_byte_line(&mut out, chr);
+    }
     let mut text = io::buffer();
     let n = io::read_full(lines::STDIN, &mut text);
-    let at = run_cases(&mut out, at, &text[..n]);
-    lines::flush(&out, at);
+    run_cases(&mut out, &text[..n]);
+    out.finish();
 }

@@ -3,13 +3,13 @@
 // to refuse it.
 #![tactic(auto)]
 
-ghost use Rattle.std.specs.Prelude.{◌≡◌, ◌++◌, ◌+◌, ◌*◌};
-ghost use Rattle.sise_serializer.specs.Bytes.{pasted_if, repeat};
-ghost use Rattle.sise_serializer.specs.Parts.{spot_of};
-ghost use Rattle.sise_serializer.specs.Serializer.{style, answer_as};
+ghost use Rattle.std.specs.Prelude.{◌≡◌, ◌+◌, ◌*◌, ◌≤◌, length};
+ghost use Rattle.sise_serializer.specs.Bytes.{pasted, pasted_if};
+ghost use Rattle.sise_serializer.specs.Parts.{spot_of, gap_bytes, break_bytes};
+ghost use Rattle.sise_serializer.specs.Serializer.{style_of, new_line_of, answer_as};
 ghost use Rattle.sise_serializer.specs.Words.{answer_word, has_call, Runs, RunsFrom};
 
-use sise_serializer::{Put, Ran, Serializer, Spot};
+use sise_serializer::{Ran, Serializer, SerializerStyle, Spot, WriteError};
 
 // ---- calls.rt
 
@@ -17,14 +17,13 @@ use sise_serializer::{Put, Ran, Serializer, Spot};
 pub fn write_calls(
     words: &[u64],
     atoms: &[u8],
-    line_break: &[u8],
-    indentation: &[u8],
+    style: SerializerStyle<'_>,
     buf: &mut [u8],
     answers: &mut [u64],
 ) -> Ran
-    ensures { Runs (style line_break.now indentation.now) words.now atoms.now buf.old answers.old result buf.new answers.new }
+    ensures { Runs (style_of style.entry) words.now atoms.now buf.old answers.old result buf.new answers.new }
 {
-    sise_serializer::write_calls(words, atoms, line_break, indentation, buf, answers)
+    sise_serializer::write_calls(words, atoms, style, buf, answers)
 }
 
 // The same from any record on; from an unsound one no call runs.
@@ -32,18 +31,17 @@ pub fn write_calls_from(
     from: Serializer,
     words: &[u64],
     atoms: &[u8],
-    line_break: &[u8],
-    indentation: &[u8],
+    style: SerializerStyle<'_>,
     buf: &mut [u8],
     answers: &mut [u64],
 ) -> Ran
-    ensures { RunsFrom from (style line_break.now indentation.now) words.now atoms.now buf.old answers.old result buf.new answers.new }
+    ensures { RunsFrom from (style_of style.entry) words.now atoms.now buf.old answers.old result buf.new answers.new }
 {
-    sise_serializer::write_calls_from(from, words, atoms, line_break, indentation, buf, answers)
+    sise_serializer::write_calls_from(from, words, atoms, style, buf, answers)
 }
 
 // An answer's word: the offset, or 2 ^ 32 and the refusal's number.
-pub fn put_word(answer: Put) -> u64
+pub fn put_word(answer: Result<usize, WriteError>) -> u64
     ensures { result ≡ answer_word (answer_as answer) }
 {
     sise_serializer::put_word(answer)
@@ -66,7 +64,7 @@ pub fn find_spot(
     times: usize,
     indentation: usize,
     token: usize,
-) -> Spot
+) -> Option<Spot>
     ensures { result ≡ spot_of room position (lead + times * indentation) token }
 {
     sise_serializer::find_spot(position, room, lead, times, indentation, token)
@@ -80,8 +78,22 @@ pub fn paste(buf: &mut [u8], at: usize, src: &[u8])
 }
 
 // Copies a line break and `times` indentations, if they have room.
-pub fn paste_line(buf: &mut [u8], at: usize, line_break: &[u8], times: usize, indentation: &[u8])
-    ensures { buf.new ≡ pasted_if buf.old at (line_break.now ++ repeat times indentation.now) }
+pub fn paste_line(buf: &mut [u8], at: usize, style: SerializerStyle<'_>, times: usize)
+    ensures { buf.new ≡ pasted_if buf.old at (new_line_of (style_of style.entry) times) }
 {
-    sise_serializer::paste_line(buf, at, line_break, times, indentation);
+    sise_serializer::paste_line(buf, at, style, times);
+}
+
+// The space before an item that stays in its line, unless it joins what is before it, if it has room.
+pub fn write_gap(buf: &mut [u8], at: usize, joins: bool)
+    ensures { buf.new ≡ pasted_if buf.old at (gap_bytes joins) }
+{
+    sise_serializer::write_gap(buf, at, joins);
+}
+
+// What ends a text: the line break, if wished.
+pub fn final_break<'a>(style: SerializerStyle<'a>, wished: bool) -> &'a [u8]
+    ensures { result.now ≡ break_bytes wished style.entry.line_break.now }
+{
+    style.final_break(wished)
 }

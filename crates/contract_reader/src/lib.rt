@@ -1,16 +1,18 @@
 // Every public call of sise_parser but those of Parser, under the contract that it has there and with a body that only calls it: the promises of the
-// library on one page. An edit of must-fail/ puts a wrong program in the place of a body, and the contract has to refuse it. A function with a Parser,
-// which holds a reference, is proved by hand: the wrong programs of its three calls stand in sise_parser.
+// library on one page. An edit of must-fail/ puts a wrong program in the place of a body, and the contract has to refuse it. The wrong programs of the
+// three calls of Parser stand in sise_parser.
 #![tactic(auto)]
 
-ghost use Rattle.std.specs.Prelude.{◌≡◌, ◌≤◌, eqb, drop, get_or};
+ghost use Rattle.std.specs.Prelude.{◌≡◌, ◌≤◌, ◌↔◌, true, eqb, length, drop, get_or, IfSome, IsSome};
 ghost use Rattle.sise_parser.specs.Refusals.{refusal_of};
 ghost use Rattle.sise_parser.specs.Lexer.{between};
 ghost use Rattle.sise_parser.specs.Plain.{skip_blanks, atom_run, AtomTo};
-ghost use Rattle.sise_parser.specs.Reader.{fresh_reader, next_item, finish_reading, part_of, reader};
+ghost use Rattle.sise_parser.specs.Reader.{fresh_reader, is_sound, next_item, finish_reading, part_of, next, reader, item as answer_item};
+ghost use Rattle.sise_parser.specs.PlainItems.{IsPlain};
+ghost use Rattle.sise_parser.specs.Phases.{ReadsPhase};
 ghost use Rattle.sise_parser.specs.Meaning.{next_as, finished_as};
 
-use sise_parser::{Finished, Next, ParseError, Phase, Reader};
+use sise_parser::{Next, ParseError, Phase, PlainItem, Reader, Refusal, UnknownPhase};
 
 // ---- reader.rt
 
@@ -29,7 +31,7 @@ pub fn next_item(reader: Reader, text: &[u8]) -> Next
 }
 
 // Whether the text ends after the last item.
-pub fn finish(reader: Reader, text: &[u8]) -> Finished
+pub fn finish(reader: Reader, text: &[u8]) -> Result<(), ParseError>
     ensures { finished_as result ≡ finish_reading text.now reader }
 {
     reader.finish(text)
@@ -47,6 +49,13 @@ pub fn item_ahead(position: usize, phase: Phase, lists: usize, text: &[u8]) -> N
     ensures { next_as result ≡ next_item text.now (reader position phase lists) }
 {
     sise_parser::item_ahead(position, phase, lists, text)
+}
+
+// The phase that has a number, if one has.
+pub fn phase_of(word: u64) -> Result<Phase, UnknownPhase>
+    ensures { ReadsPhase word result }
+{
+    Phase::try_from(word)
 }
 
 // ---- lexer.rt
@@ -74,6 +83,16 @@ pub fn is_quote_at(text: &[u8], at: usize) -> bool
     ensures { result ≡ eqb (get_or text.now at 0) 34 }
 {
     sise_parser::is_quote_at(text, at)
+}
+
+// ---- plain.rt
+
+// The next item, if it is a `(`, a `)` that does not end the outermost list, or an atom without strings, and the record for the next call.
+pub fn plain_item(text: &[u8], reader: Reader) -> Option<PlainItem>
+    ensures when { IsSome result ↔ (is_sound (length text.now) reader ≡ true) × IsPlain text.now reader }
+    ensures item { IfSome result (λ p. next p.reader (answer_item p.item) ≡ next_item text.now reader) }
+{
+    sise_parser::plain_item(text, reader)
 }
 
 // ---- error.rt

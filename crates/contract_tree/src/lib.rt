@@ -7,12 +7,12 @@ ghost use Rattle.sise_tree.specs.Decision.{decide};
 ghost use Rattle.sise_tree.specs.Held.{held_as};
 ghost use Rattle.sise_tree.specs.IndexPath.{index_path};
 ghost use Rattle.sise_tree.specs.FindPath.{find_path, found_as, found_number};
-ghost use Rattle.sise_tree.specs.Answers.{indexed_as, parsed_as, number_of, place_of, code_of};
+ghost use Rattle.sise_tree.specs.Answers.{indexed_as, path_refusal, parsed_as, number_of, place_of, code_of};
 ghost use Rattle.sise_tree.specs.ParseTree.{parse_tree, DoesParse};
 ghost use Rattle.sise_tree.specs.ParseText.{parse_text, DoesParseText};
 
-use sise_parser::Reader;
-use sise_tree::{Found, Held, Indexed, ParsedTree, TreeRead};
+use sise_parser::{Reader, Refusal};
+use sise_tree::{Found, Held, PathError, TreeError, TreeRead, TreeTable};
 
 // ---- parse.rt
 
@@ -24,30 +24,30 @@ pub fn parse_tree(text: &[u8], reader: Reader, table: &mut [u32]) -> TreeRead
 }
 
 // 01's number of an answer of parse_tree, 0 for a node.
-pub fn number(answer: ParsedTree) -> u32
+pub fn number(answer: Result<usize, TreeError>) -> u32
     ensures { result ≡ number_of (parsed_as answer) }
 {
-    answer.number()
+    answer.map_or_else(|error| error.number(), |_| 0)
 }
 
 // Its place, 0 where there is none.
-pub fn place(answer: ParsedTree) -> usize
+pub fn place(answer: Result<usize, TreeError>) -> usize
     ensures { result ≡ place_of (parsed_as answer) }
 {
-    answer.place()
+    answer.map_or_else(|error| error.place(), |_| 0)
 }
 
 // Its code point, 0 where there is none.
-pub fn code(answer: ParsedTree) -> u32
+pub fn code(answer: Result<usize, TreeError>) -> u32
     ensures { result ≡ code_of (parsed_as answer) }
 {
-    answer.code()
+    answer.map_or_else(|error| error.code(), |_| 0)
 }
 
 // ---- whole.rt
 
 // Reads a text that is one node and nothing behind it into the table's first words.
-pub fn parse_text(text: &[u8], table: &mut [u32]) -> ParsedTree
+pub fn parse_text(text: &[u8], table: &mut [u32]) -> Result<usize, TreeError>
     ensures { DoesParseText (parse_text text.now table.old) result table.new }
 {
     sise_tree::parse_text(text, table)
@@ -56,24 +56,24 @@ pub fn parse_text(text: &[u8], table: &mut [u32]) -> ParsedTree
 // ---- tree.rt
 
 // The node at the end of the path: its index in the table.
-pub fn index_path(table: &[u32], text: &[u8], path: &[u64]) -> Indexed
+pub fn index_path(table: &[u32], text: &[u8], path: &[u64]) -> Result<usize, PathError>
     ensures { indexed_as result ≡ index_path table.now text.now path.now }
 {
-    sise_tree::index_path(table, text, path)
+    TreeTable { table, text }.index_path(path)
 }
 
 // 01's number of an answer of index_path, 0 for a node.
-pub fn indexed_number(indexed: Indexed) -> u32
+pub fn indexed_number(indexed: Result<usize, PathError>) -> u32
     ensures { result ≡ number_of (indexed_as indexed) }
 {
-    indexed.number()
+    indexed.map_or_else(|error| error.number(), |_| 0)
 }
 
 // What the table holds over the text: a tree of atoms, a tree with an atom that is none, or no tree.
 pub fn holds_tree(text: &[u8], table: &[u32]) -> Held
     ensures { result ≡ held_as text.now (decide text.now table.now) }
 {
-    sise_tree::holds_tree(text, table)
+    TreeTable { table, text }.holds_tree()
 }
 
 // A word of a table as an index.
@@ -87,15 +87,28 @@ pub fn wide(x: u32) -> usize
 // ---- find.rt
 
 // The node at the end of the path, where only the nodes on the way are read: its index in the table, and the number of nodes looked at.
-pub fn find_path(table: &[u32], text: &[u8], path: &[u64]) -> Found
+pub fn find_path(table: &[u32], text: &[u8], path: &[u64]) -> Result<Found, PathError>
     ensures { found_as result ≡ find_path table.now text.now path.now }
 {
-    sise_tree::find_path(table, text, path)
+    TreeTable { table, text }.find_path(path)
 }
 
 // 01's number of an answer of find_path, 0 for a node.
-pub fn found_number(found: Found) -> u32
+pub fn found_number(found: Result<Found, PathError>) -> u32
     ensures { result ≡ found_number (found_as found) }
 {
-    found.number()
+    found.map_or_else(|error| error.number(), |_| 0)
+}
+
+// The place and the code point of a refusal of the two: it has none.
+pub fn path_place(refused: PathError) -> usize
+    ensures { result ≡ (path_refusal refused).place }
+{
+    refused.place()
+}
+
+pub fn path_code(refused: PathError) -> u32
+    ensures { result ≡ (path_refusal refused).code }
+{
+    refused.code()
 }

@@ -3,196 +3,138 @@
 #![tactic(auto)]
 
 ghost use Rattle.std.specs.Prelude.{◌≡◌};
-ghost use Rattle.sise_serializer.specs.Serializer.{style};
+ghost use Rattle.sise_serializer.specs.Serializer.{style_of};
 ghost use Rattle.sise_tree.specs.Answers.{number_of};
-ghost use Rattle.sise_tree_writer.specs.Answers.{put_as};
+ghost use Rattle.sise_tree_writer.specs.Answers.{error_number, put_as};
 ghost use Rattle.sise_tree_writer.specs.SerializeTree.{serialize_tree, DoesWrite};
 ghost use Rattle.sise_tree_writer.specs.Writing.{write_text};
 ghost use Rattle.sise_tree_writer.specs.Sizes.{measured_as, number_in, MeasuresTree, CommitsTree, MeasuresText, CommitsText};
 ghost use Rattle.sise_tree_writer.specs.House.{house_at, house};
 
-use sise_serializer::Serializer;
-use sise_tree_writer::{Measured, PutTree, TreeWrote};
+use sise_parser::Refusal;
+use sise_serializer::{Serializer, SerializerStyle};
+use sise_tree::TreeTable;
+use sise_tree_writer::{TreeSize, TreeWrote, WriteTreeError, answer_number};
 
 // ---- serialize.rt
 
-// Writes the tree that the table holds over `text`, where the writer stands.
+// Writes the tree that `tree` holds, where the writer stands.
 pub fn serialize_tree(
     serializer: Serializer,
-    line_break: &[u8],
-    indentation: &[u8],
+    style: SerializerStyle<'_>,
     buf: &mut [u8],
-    text: &[u8],
-    table: &[u32],
+    tree: TreeTable<'_>,
     break_line_at: u64,
 ) -> TreeWrote
-    ensures { DoesWrite (serialize_tree (style line_break.now indentation.now) buf.old serializer text.now table.now break_line_at) result buf.new }
+    ensures { DoesWrite (serialize_tree (style_of style.entry) buf.old serializer tree.entry.text.now tree.entry.table.now break_line_at) result buf.new }
 {
-    sise_tree_writer::serialize_tree(
-        serializer,
-        line_break,
-        indentation,
-        buf,
-        text,
-        table,
-        break_line_at,
-    )
+    sise_tree_writer::serialize_tree(serializer, style, buf, tree, break_line_at)
 }
 
 // What serialize_tree would add with a buffer of `room` bytes. Nothing is written.
 pub fn measure_tree(
     serializer: Serializer,
-    line_break: &[u8],
-    indentation: &[u8],
+    style: SerializerStyle<'_>,
     room: usize,
-    text: &[u8],
-    table: &[u32],
+    tree: TreeTable<'_>,
     break_line_at: u64,
-) -> Measured
-    ensures { MeasuresTree (style line_break.now indentation.now) room serializer text.now table.now break_line_at result }
+) -> Result<TreeSize, WriteTreeError>
+    ensures { MeasuresTree (style_of style.entry) room serializer tree.entry.text.now tree.entry.table.now break_line_at result }
 {
-    sise_tree_writer::measure_tree(
-        serializer,
-        line_break,
-        indentation,
-        room,
-        text,
-        table,
-        break_line_at,
-    )
+    sise_tree_writer::measure_tree(serializer, style, room, tree, break_line_at)
 }
 
 // Writes the tree as serialize_tree does, if `measured` is still what measure_tree answers.
 pub fn commit_tree(
     serializer: Serializer,
-    line_break: &[u8],
-    indentation: &[u8],
+    style: SerializerStyle<'_>,
     buf: &mut [u8],
-    text: &[u8],
-    table: &[u32],
+    tree: TreeTable<'_>,
     break_line_at: u64,
-    measured: Measured,
+    measured: Result<TreeSize, WriteTreeError>,
 ) -> TreeWrote
-    ensures { CommitsTree (style line_break.now indentation.now) buf.old serializer text.now table.now break_line_at measured result buf.new }
+    ensures { CommitsTree (style_of style.entry) buf.old serializer tree.entry.text.now tree.entry.table.now break_line_at measured result buf.new }
 {
-    sise_tree_writer::commit_tree(
-        serializer,
-        line_break,
-        indentation,
-        buf,
-        text,
-        table,
-        break_line_at,
-        measured,
-    )
+    sise_tree_writer::commit_tree(serializer, style, buf, tree, break_line_at, measured)
 }
 
 // 01's number of an answer, 0 for an offset.
-pub fn number(answer: PutTree) -> u32
+pub fn number(answer: Result<usize, WriteTreeError>) -> u32
     ensures { result ≡ number_of (put_as answer) }
 {
-    answer.number()
+    answer_number(answer)
+}
+
+// 01's number of a refusal.
+pub fn error_number(error: WriteTreeError) -> u32
+    ensures { result ≡ error_number error }
+{
+    error.number()
 }
 
 // ---- size.rt
 
 // 01's number of an enquiry's answer, 0 for a size.
-pub fn measured_number(measured: Measured) -> u32
+pub fn measured_number(measured: Result<TreeSize, WriteTreeError>) -> u32
     ensures { result ≡ number_in (measured_as measured) }
 {
-    measured.number()
+    answer_number(measured)
 }
 
 // ---- whole.rt
 
-// Writes a whole text: the tree that the table holds over `text`, and a line break behind it if wished.
+// Writes a whole text: the tree that `tree` holds, and a line break behind it if wished.
 pub fn write_text(
-    line_break: &[u8],
-    indentation: &[u8],
+    style: SerializerStyle<'_>,
     buf: &mut [u8],
-    text: &[u8],
-    table: &[u32],
+    tree: TreeTable<'_>,
     break_line_at: u64,
     final_break: bool,
 ) -> TreeWrote
-    ensures { DoesWrite (write_text (style line_break.now indentation.now) buf.old text.now table.now break_line_at final_break) result buf.new }
+    ensures { DoesWrite (write_text (style_of style.entry) buf.old tree.entry.text.now tree.entry.table.now break_line_at final_break) result buf.new }
 {
-    sise_tree_writer::write_text(
-        line_break,
-        indentation,
-        buf,
-        text,
-        table,
-        break_line_at,
-        final_break,
-    )
+    sise_tree_writer::write_text(style, buf, tree, break_line_at, final_break)
 }
 
 // What write_text would write with a buffer of `room` bytes. Nothing is written.
 pub fn measure_text(
-    line_break: &[u8],
-    indentation: &[u8],
+    style: SerializerStyle<'_>,
     room: usize,
-    text: &[u8],
-    table: &[u32],
+    tree: TreeTable<'_>,
     break_line_at: u64,
     final_break: bool,
-) -> Measured
-    ensures { MeasuresText (style line_break.now indentation.now) room text.now table.now break_line_at final_break result }
+) -> Result<TreeSize, WriteTreeError>
+    ensures { MeasuresText (style_of style.entry) room tree.entry.text.now tree.entry.table.now break_line_at final_break result }
 {
-    sise_tree_writer::measure_text(
-        line_break,
-        indentation,
-        room,
-        text,
-        table,
-        break_line_at,
-        final_break,
-    )
+    sise_tree_writer::measure_text(style, room, tree, break_line_at, final_break)
 }
 
 // Writes a whole text as write_text does, if `measured` is still what measure_text answers.
 pub fn commit_text(
-    line_break: &[u8],
-    indentation: &[u8],
+    style: SerializerStyle<'_>,
     buf: &mut [u8],
-    text: &[u8],
-    table: &[u32],
+    tree: TreeTable<'_>,
     break_line_at: u64,
     final_break: bool,
-    measured: Measured,
+    measured: Result<TreeSize, WriteTreeError>,
 ) -> TreeWrote
-    ensures { CommitsText (style line_break.now indentation.now) buf.old text.now table.now break_line_at final_break measured result buf.new }
+    ensures { CommitsText (style_of style.entry) buf.old tree.entry.text.now tree.entry.table.now break_line_at final_break measured result buf.new }
 {
-    sise_tree_writer::commit_text(
-        line_break,
-        indentation,
-        buf,
-        text,
-        table,
-        break_line_at,
-        final_break,
-        measured,
-    )
+    sise_tree_writer::commit_text(style, buf, tree, break_line_at, final_break, measured)
 }
 
 // ---- house.rt
 
 // Writes a whole text in house style at a threshold.
-pub fn serialize_house_at(
-    buf: &mut [u8],
-    text: &[u8],
-    table: &[u32],
-    break_line_at: u64,
-) -> TreeWrote
-    ensures { DoesWrite (house_at break_line_at buf.old text.now table.now) result buf.new }
+pub fn serialize_house_at(buf: &mut [u8], tree: TreeTable<'_>, break_line_at: u64) -> TreeWrote
+    ensures { DoesWrite (house_at break_line_at buf.old tree.entry.text.now tree.entry.table.now) result buf.new }
 {
-    sise_tree_writer::serialize_house_at(buf, text, table, break_line_at)
+    sise_tree_writer::serialize_house_at(buf, tree, break_line_at)
 }
 
 // Writes a whole text in house style.
-pub fn serialize_house(buf: &mut [u8], text: &[u8], table: &[u32]) -> TreeWrote
-    ensures { DoesWrite (house buf.old text.now table.now) result buf.new }
+pub fn serialize_house(buf: &mut [u8], tree: TreeTable<'_>) -> TreeWrote
+    ensures { DoesWrite (house buf.old tree.entry.text.now tree.entry.table.now) result buf.new }
 {
-    sise_tree_writer::serialize_house(buf, text, table)
+    sise_tree_writer::serialize_house(buf, tree)
 }

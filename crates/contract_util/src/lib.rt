@@ -2,14 +2,14 @@
 // edit of must-fail/ puts a wrong program in the place of a body, and the contract has to refuse it.
 #![tactic(auto)]
 
-ghost use Rattle.std.specs.Prelude.{◌≡◌, drop};
+ghost use Rattle.std.specs.Prelude.{◌≡◌, drop, is_some};
 ghost use Rattle.sise_util.specs.Chars.{is_atom_chr, is_string_chr};
-ghost use Rattle.sise_util.specs.Atom.{kind_of, kind_prefix, kind_number, is_kind};
+ghost use Rattle.sise_util.specs.Atom.{kind_of, kind_prefix, kind_number};
 ghost use Rattle.sise_util.specs.Classes.{class_of, class_number, class_table};
 ghost use Rattle.sise_util.specs.Utf8.{character};
 
 use sise_util::classes::ClassTable;
-use sise_util::{AtomKind, Character};
+use sise_util::{AtomKind, Character, IllFormed};
 
 // ---- util.rt
 
@@ -35,31 +35,31 @@ pub fn is_atom_byte(byte: u8) -> bool
 }
 
 // Which atom `atom` is.
-pub fn check_atom(atom: &[u8]) -> AtomKind
+pub fn check_atom(atom: &[u8]) -> Option<AtomKind>
     ensures { result ≡ kind_of atom.now }
 {
     sise_util::check_atom(atom)
 }
 
 // Which atom the first `len` bytes of `rest` are; a length past its end is none.
-pub fn check_atom_prefix(rest: &[u8], len: usize) -> AtomKind
+pub fn check_atom_prefix(rest: &[u8], len: usize) -> Option<AtomKind>
     ensures { result ≡ kind_prefix rest.now len }
 {
     sise_util::check_atom_prefix(rest, len)
 }
 
 // The first word of such an atom in a table, and 0 for no atom.
-pub fn kind_number(kind: AtomKind) -> u32
+pub fn kind_number(kind: Option<AtomKind>) -> u32
     ensures { result ≡ kind_number kind }
 {
-    kind.number()
+    sise_util::kind_number(kind)
 }
 
 // Whether it is an atom at all.
-pub fn kind_is_atom(kind: AtomKind) -> bool
-    ensures { result ≡ is_kind kind }
+pub fn kind_is_atom(kind: Option<AtomKind>) -> bool
+    ensures { result ≡ is_some kind }
 {
-    kind.is_atom()
+    kind.is_some()
 }
 
 // ---- classes.rt
@@ -81,7 +81,7 @@ pub fn class_of(chr: u8) -> u8
 // ---- utf8.rt
 
 // The character that begins at a place of the text, by RFC 3629; none where none is well formed, and none at the text's end or past it.
-pub fn character_at(text: &[u8], at: usize) -> Character
+pub fn character_at(text: &[u8], at: usize) -> Result<Character, IllFormed>
     ensures { result ≡ character (drop at text.now) }
 {
     sise_util::character_at(text, at)

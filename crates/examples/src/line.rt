@@ -1,40 +1,28 @@
 // A line of output.
-use lines::Block;
+use lines::Printer;
+use sise_parser::Refusal;
 
-// `name: value`
-pub(crate) fn put_value(out: &mut Block, at: usize, name: &[u8], value: usize) -> usize {
-    let at = lines::put_bytes(out, at, name);
-    let at = lines::put_byte(out, at, b':');
-    let at = lines::put_number(out, at, value);
-    lines::put_byte(out, at, b'\n')
-}
-
-// `name: refused number place`
-pub(crate) fn put_refused(
-    out: &mut Block,
-    at: usize,
-    name: &[u8],
-    number: u32,
-    place: usize,
-) -> usize {
-    let at = lines::put_bytes(out, at, name);
-    let at = lines::put_bytes(out, at, b": refused");
-    let at = lines::put_number(out, at, number as usize);
-    let at = lines::put_number(out, at, place);
-    lines::put_byte(out, at, b'\n')
-}
-
-// A number, and the byte after it.
-pub(crate) fn put_word(out: &mut Block, at: usize, word: u32, after: u8) -> usize {
-    let at = lines::put_decimal(out, at, word as u64);
-    lines::put_byte(out, at, after)
+// `name: value`, or `name: refused number place`
+pub(crate) fn put_answer<E: Refusal>(out: &mut Printer, name: &[u8], answer: Result<usize, E>) {
+    out.put_bytes(name);
+    match answer {
+        Ok(value) => {
+            out.put_byte(b':');
+            out.put_number(value);
+        }
+        Err(error) => {
+            out.put_bytes(b": refused");
+            out.put_number(error.number() as usize);
+            out.put_number(error.place());
+        }
+    }
+    out.put_byte(b'\n');
 }
 
 // The text that stands in the buffer up to the position, and a line end.
-pub(crate) fn put_text(out: &mut Block, at: usize, buf: &[u8], position: usize) -> usize {
-    if buf.len() < position {
-        return at;
+pub(crate) fn put_text(out: &mut Printer, buf: &[u8], position: usize) {
+    if let Some(text) = buf.get(..position) {
+        out.put_bytes(text);
+        out.put_byte(b'\n');
     }
-    let at = lines::put_bytes(out, at, &buf[..position]);
-    lines::put_byte(out, at, b'\n')
 }

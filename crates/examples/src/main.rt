@@ -10,10 +10,19 @@ mod rows;
 mod trees;
 mod writings;
 
+use lines::Printer;
+use sise_serializer::SerializerStyle;
+
+// The style of all examples: lines end with a line feed, and each list indents by two spaces.
+pub(crate) const STYLE: SerializerStyle<'static> = SerializerStyle {
+    line_break: b"\n",
+    indentation: b"  ",
+};
+
 fn main() {
-    let mut out = io::buffer();
-    let at = rows::put_rows(&mut out, 0);
-    let at = trees::put_trees(&mut out, at);
-    let at = writings::put_writings(&mut out, at);
-    lines::flush(&out, at);
+    let mut out = Printer::new();
+    rows::put_rows(&mut out);
+    trees::put_trees(&mut out);
+    writings::put_writings(&mut out);
+    out.finish();
 }

@@ -1,124 +1,88 @@
 // Rows of the table of refusals, and lists in each other.
-use crate::line::{put_refused, put_value};
-use lines::Block;
-use sise_parser::{Answer, Next, Phase, Reader};
-use sise_serializer::{Put, Serializer};
-use sise_tree::{Indexed, ParsedTree, index_path, parse_tree};
-use sise_tree_writer::{PutTree, commit_text, measure_text};
-
-pub(crate) fn put_put(out: &mut Block, at: usize, name: &[u8], answer: Put) -> usize {
-    match answer {
-        Put::At(offset) => put_value(out, at, name, offset),
-        _ => put_refused(out, at, name, answer.number(), 0),
-    }
-}
-
-pub(crate) fn put_parsed(out: &mut Block, at: usize, name: &[u8], answer: ParsedTree) -> usize {
-    match answer {
-        ParsedTree::Nodes(nodes) => put_value(out, at, name, nodes),
-        _ => put_refused(out, at, name, answer.number(), answer.place()),
-    }
-}
-
-pub(crate) fn put_indexed(out: &mut Block, at: usize, name: &[u8], answer: Indexed) -> usize {
-    match answer {
-        Indexed::Node(index) => put_value(out, at, name, index),
-        _ => put_refused(out, at, name, answer.number(), 0),
-    }
-}
-
-fn put_wrote(out: &mut Block, at: usize, name: &[u8], answer: PutTree) -> usize {
-    match answer {
-        PutTree::At(offset) => put_value(out, at, name, offset),
-        _ => put_refused(out, at, name, answer.number(), 0),
-    }
-}
-
-fn put_next(out: &mut Block, at: usize, name: &[u8], answer: Answer) -> usize {
-    match answer {
-        Answer::Item(_) => put_value(out, at, name, 0),
-        Answer::Refused(error) => put_refused(out, at, name, error.number(), error.place()),
-    }
-}
+use crate::STYLE;
+use crate::line::put_answer;
+use lines::Printer;
+use sise_parser::{ParseError, ParsedItem, Phase, Reader};
+use sise_serializer::{Serializer, WriteError};
+use sise_tree::{PathError, TreeError, TreeTable, parse_tree};
+use sise_tree_writer::{WriteTreeError, commit_text, measure_text};
 
 // Position 3 in a text of one byte.
-fn unsound(out: &mut Block, at: usize) -> usize {
+fn unsound() -> Result<ParsedItem, ParseError> {
     let reader = Reader {
         position: 3,
         phase: Phase::Beginning,
         lists: 0,
     };
-    let answer = reader.next_item(b"a").answer;
-    put_next(out, at, b"row 11", answer)
+    reader.next_item(b"a").answer
 }
 
 // A list that closes where a node is due.
-fn closed(out: &mut Block, at: usize) -> usize {
-    let mut table = [0u32; 4];
+fn closed() -> Result<usize, TreeError> {
+    let mut table = [0; 4];
     let reader = Reader::new().next_item(b"()").reader;
-    let answer = parse_tree(b"()", reader, &mut table).answer;
-    put_parsed(out, at, b"row 12", answer)
+    parse_tree(b"()", reader, &mut table).answer
 }
 
-fn table_full(out: &mut Block, at: usize) -> usize {
-    let mut table = [0u32; 3];
-    let answer = parse_tree(b"a", Reader::new(), &mut table).answer;
-    put_parsed(out, at, b"row 14", answer)
+fn table_full() -> Result<usize, TreeError> {
+    let mut table = [0; 3];
+    parse_tree(b"a", Reader::new(), &mut table).answer
 }
 
 // A first word that no node has.
-fn no_tree(out: &mut Block, at: usize) -> usize {
-    let table = [4u32, 0, 1, 1];
-    put_indexed(out, at, b"row 15", index_path(&table, b"a", &[]))
+fn no_tree() -> Result<usize, PathError> {
+    let tree = TreeTable {
+        text: b"a",
+        table: &[4, 0, 1, 1],
+    };
+    tree.index_path(&[])
 }
 
-fn not_finished(out: &mut Block, at: usize) -> usize {
-    let mut buf = [0u8; 1];
-    let answer = Serializer::new()
-        .finish(b"\n", b"  ", &mut buf, true)
-        .answer;
-    put_put(out, at, b"row 20", answer)
+fn not_finished() -> Result<usize, WriteError> {
+    let mut buf = [0; 1];
+    Serializer::new().finish(STYLE, &mut buf, true).answer
 }
 
 // So many lists begun, one in the other: what the last begin_list answers.
-fn nested(lists: usize) -> Put {
-    let mut buf = [0u8; 256];
+fn nested(lists: usize) -> Result<usize, WriteError> {
+    let mut buf = [0; 256];
     let mut serializer = Serializer::new();
-    let mut answer = Put::NoRoom;
-    let mut left = lists;
-    while left > 0 {
-        let wrote = serializer.begin_list(b"\n", b"  ", &mut buf, 18446744073709551615);
+    let mut answer = Err(WriteError::NoRoom);
+    for _ in 0..lists {
+        let wrote = serializer.begin_list(STYLE, &mut buf, u64::MAX);
         serializer = wrote.serializer;
         answer = wrote.answer;
-        left -= 1;
     }
     answer
 }
 
-fn no_room(out: &mut Block, at: usize) -> usize {
-    let mut buf = [0u8; 1];
-    let answer = Serializer::new()
-        .put_atom(b"\n", b"  ", &mut buf, b"ab", 0)
-        .answer;
-    put_put(out, at, b"row 22", answer)
+fn no_room() -> Result<usize, WriteError> {
+    let mut buf = [0; 1];
+    Serializer::new().put_atom(STYLE, &mut buf, b"ab", 0).answer
 }
 
 // `a` measured, and then `ab` committed: request 2.2.
-fn size_changed(out: &mut Block, at: usize) -> usize {
-    let mut buf = [0u8; 2];
-    let size = measure_text(b"\n", b"  ", 2, b"a", &[1, 0, 1, 1], 0, false);
-    let changed = [1u32, 0, 2, 1];
-    let answer = commit_text(b"\n", b"  ", &mut buf, b"ab", &changed, 0, false, size).answer;
-    put_wrote(out, at, b"row 23", answer)
+fn size_changed() -> Result<usize, WriteTreeError> {
+    let mut buf = [0; 2];
+    let tree = TreeTable {
+        text: b"a",
+        table: &[1, 0, 1, 1],
+    };
+    let changed = TreeTable {
+        text: b"ab",
+        table: &[1, 0, 2, 1],
+    };
+    let size = measure_text(STYLE, 2, tree, 0, false);
+    commit_text(STYLE, &mut buf, changed, 0, false, size).answer
 }
 
-pub(crate) fn put_rows(out: &mut Block, at: usize) -> usize {
-    let at = unsound(out, at);
-    let at = closed(out, at);
-    let at = table_full(out, at);
-    let at = no_tree(out, at);
-    let at = not_finished(out, at);
-    let at = put_put(out, at, b"list 250", nested(250));
-    let at = no_room(out, at);
-    size_changed(out, at)
+pub(crate) fn put_rows(out: &mut Printer) {
+    put_answer(out, b"row 11", unsound().map(|_| 0));
+    put_answer(out, b"row 12", closed());
+    put_answer(out, b"row 14", table_full());
+    put_answer(out, b"row 15", no_tree());
+    put_answer(out, b"row 20", not_finished());
+    put_answer(out, b"list 250", nested(250));
+    put_answer(out, b"row 22", no_room());
+    put_answer(out, b"row 23", size_changed());
 }

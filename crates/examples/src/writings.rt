@@ -1,47 +1,50 @@
 // The worked writings.
-use crate::line::put_text;
-use crate::rows::put_put;
-use lines::Block;
-use sise_serializer::{Put, Serializer, Wrote};
+use crate::STYLE;
+use crate::line::{put_answer, put_text};
+use lines::Printer;
+use sise_serializer::{Serializer, Wrote};
 
-const LARGEST: u64 = 18446744073709551615;
+// A call of the writer, with the threshold where it has one.
+#[derive(Clone, Copy)]
+enum Call {
+    BeginList(u64),
+    PutAtom(&'static [u8], u64),
+    EndList,
+    Finish,
+}
 
-// The worked calls in order, `22` at the given threshold.
-fn call(
-    serializer: Serializer,
-    line_break: &[u8],
-    indentation: &[u8],
-    buf: &mut [u8],
-    index: usize,
-    threshold: u64,
-) -> Wrote {
-    match index {
-        0 | 2 => serializer.begin_list(line_break, indentation, buf, 0),
-        1 => serializer.put_atom(line_break, indentation, buf, b"z", LARGEST),
-        3 => serializer.put_atom(line_break, indentation, buf, b"1", LARGEST),
-        4 => serializer.put_atom(line_break, indentation, buf, b"22", threshold),
-        5 | 6 => serializer.end_list(line_break, indentation, buf),
-        _ => serializer.finish(line_break, indentation, buf, true),
+fn make_call(serializer: Serializer, buf: &mut [u8], call: Call) -> Wrote {
+    match call {
+        Call::BeginList(break_line_at) => serializer.begin_list(STYLE, buf, break_line_at),
+        Call::PutAtom(atom, break_line_at) => serializer.put_atom(STYLE, buf, atom, break_line_at),
+        Call::EndList => serializer.end_list(STYLE, buf),
+        Call::Finish => serializer.finish(STYLE, buf, true),
     }
 }
 
-// Each call's answer, and the text.
-fn put_writing(out: &mut Block, from: usize, threshold: u64) -> usize {
-    let mut buf = [0u8; 64];
+// Each answer of the worked calls, `22` at the given threshold, and the text.
+fn put_writing(out: &mut Printer, threshold: u64) {
+    let calls = [
+        Call::BeginList(0),
+        Call::PutAtom(b"z", u64::MAX),
+        Call::BeginList(0),
+        Call::PutAtom(b"1", u64::MAX),
+        Call::PutAtom(b"22", threshold),
+        Call::EndList,
+        Call::EndList,
+        Call::Finish,
+    ];
+    let mut buf = [0; 64];
     let mut serializer = Serializer::new();
-    let mut at = from;
-    let mut i = 0;
-    while i < 8 {
-        let wrote = call(serializer, b"\n", b"  ", &mut buf, i, threshold);
-        let answer = wrote.answer;
+    for call in calls {
+        let wrote = make_call(serializer, &mut buf, call);
         serializer = wrote.serializer;
-        at = put_put(out, at, b"offset", answer);
-        i += 1;
+        put_answer(out, b"offset", wrote.answer);
     }
-    put_text(out, at, &buf, serializer.position)
+    put_text(out, &buf, serializer.position);
 }
 
-pub(crate) fn put_writings(out: &mut Block, at: usize) -> usize {
-    let at = put_writing(out, at, 4);
-    put_writing(out, at, 5)
+pub(crate) fn put_writings(out: &mut Printer) {
+    put_writing(out, 4);
+    put_writing(out, 5);
 }

@@ -1,9 +1,8 @@
 -- The last line that the program items prints.
 -- Assumes nothing.
-use Rattle.std.specs.Prelude.{List, [], ◌∷◌, ◌++◌, ℕ}
+use Rattle.std.specs.Prelude.{List, [], ◌∷◌, ◌++◌, ℕ, Result, Ok, Err}
 use Rattle.sise_parser.specs.Refusals.{refusal_of}
 use Rattle.sise_parser.specs.declared.error.ParseError.{ParseError}
-use Rattle.sise_parser.specs.declared.reader.Finished.{Finished}
 use Rattle.lines.specs.Put.{number}
 
 -- `refused number place`, with document 01's number, and the place 0 where it has none
@@ -11,6 +10,6 @@ unfoldable pub refused_line : ParseError → List ℕ
 refused_line e = 114 ∷ 101 ∷ 102 ∷ 117 ∷ 115 ∷ 101 ∷ 100 ∷ (number (refusal_of e).number ++ number (refusal_of e).place ++ (10 ∷ []))
 
 -- `ok`, or the refusal
-unfoldable pub last_line : Finished → List ℕ
-last_line Finished.Done = 111 ∷ 107 ∷ 10 ∷ []
-last_line (Finished.Refused e) = refused_line e
+unfoldable pub last_line : Result (Unit {0}) ParseError → List ℕ
+last_line (Ok _) = 111 ∷ 107 ∷ 10 ∷ []
+last_line (Err e) = refused_line e

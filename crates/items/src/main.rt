@@ -4,69 +4,55 @@
 #![tactic(auto)]
 
 ghost use Rattle.std.specs.Prelude.{◌≡◌};
-ghost use Rattle.lines.specs.Put.{output, put};
+ghost use Rattle.lines.specs.Put.{put};
 ghost use Rattle.items.specs.Last.{refused_line, last_line};
 
-use lines::{Block, put_item, put_number};
-use sise_parser::{Answer, Finished, ParseError, Phase, Reader};
+use lines::Printer;
+use sise_parser::{ParseError, Phase, Reader, Refusal};
 
-fn put_refused(out: &mut Block, at: usize, error: ParseError) -> usize
-    ensures { output result out.new ≡ put (output at out.old) (refused_line error) }
+fn put_refused(out: &mut Printer, error: ParseError)
+    ensures { out.new ≡ put out.old (refused_line error) }
 {
-    let at = lines::put_bytes(out, at, b"refused");
-    let at = put_number(out, at, error.number() as usize);
-    let at = put_number(out, at, error.place());
-    lines::put_byte(out, at, b'\n')
+    out.put_bytes(b"refused");
+    out.put_number(error.number() as usize);
+    out.put_number(error.place());
+    out.put_byte(b'\n');
 }
 
-fn put_finished(out: &mut Block, at: usize, finished: Finished) -> usize
-    ensures { output result out.new ≡ put (output at out.old) (last_line finished) }
+fn put_finished(out: &mut Printer, finished: Result<(), ParseError>)
+    ensures { out.new ≡ put out.old (last_line finished) }
 {
     match finished {
-        Finished::Done => lines::put_bytes(out, at, b"ok\n"),
-        Finished::Refused(error) => put_refused(out, at, error),
+        Ok(()) => out.put_bytes(b"ok\n"),
+        Err(error) => put_refused(out, error),
     }
 }
 
 // Each turn but the last reads an item, and a text of n bytes has n items at most, so that n + 1 turns are enough.
-fn print_items(text: &[u8]) {
-    let mut out = io::buffer();
-    let mut at = 0;
+fn put_items(out: &mut Printer, text: &[u8]) -> Result<(), ParseError> {
     let mut reader = Reader::new();
-    let mut turns = text.len() + 1;
-    while 0 < turns {
-        turns -= 1;
-        let phase = reader.phase;
-        if let Phase::Finishing = phase {
-            at = put_finished(&mut out, at, reader.finish(text));
+    for _ in 0..=text.len() {
+        if reader.phase == Phase::Finishing {
             break;
         }
         let next = reader.next_item(text);
         reader = next.reader;
-        let answer = next.answer;
-        match answer {
-            Answer::Item(item) => {
-                at = put_item(&mut out, at, item);
-                at = lines::put_byte(&mut out, at, b'\n');
-            }
-            Answer::Refused(error) => {
-                at = put_refused(&mut out, at, error);
-                break;
-            }
-        }
+        out.put_item(next.answer?);
+        out.put_byte(b'\n');
     }
-    lines::flush(&out, at);
+    reader.finish(text)
 }
 
 fn main() {
+    let mut out = Printer::new();
     let mut text = io::large_buffer();
     let n = io::read_full(lines::STDIN, &mut text);
     let mut more = [0u8; 1];
     if n == 65536 && 0 < io::read_full(lines::STDIN, &mut more) {
-        let mut out = io::buffer();
-        let at = lines::put_bytes(&mut out, 0, b"long\n");
-        lines::flush(&out, at);
+        out.put_bytes(b"long\n");
     } else {
-        print_items(&text[..n]);
+        let finished = put_items(&mut out, &text[..n]);
+        put_finished(&mut out, finished);
     }
+    out.finish();
 }

@@ -1,82 +1,119 @@
-// Text for a program's output, collected in a lent block, which is written whenever it is full.
+// Text for a program's output, collected in a block, which is written whenever it is full.
 #![tactic(auto)]
 
-mod item;
+ghost use Rattle.std.specs.Prelude.{◌≡◌, ◌≤◌, ◌↔◌, [], ◌∷◌, IsTrue};
+ghost use Rattle.lines.specs.Put.{output, put, decimal, number, item_text};
 
-ghost use Rattle.std.specs.Prelude.{◌≡◌, [], ◌∷◌};
-ghost use Rattle.lines.specs.Put.{output, put, decimal, number};
-
-pub use item::put_item;
+use sise_parser::ParsedItem;
+use std::marker::Model;
 
 // The standard streams by their numbers.
 pub const STDIN: i32 = 0;
 
 pub const STDOUT: i32 = 1;
 
-// A program has one, and the place behind the bytes in it that wait to be written.
-pub type Block = [u8; 4096];
+// A program's output: the block, and the place behind the bytes in it that wait to be written. A clause sees both as an `Output`. It is never let go,
+// so that a program ends with `finish` and no byte is lost.
+pub struct Printer {
+    place: usize,
+    block: [u8; 4096],
+}
 
-fn write_part(out: &[u8], at: usize) {
-    if at <= out.len() {
-        io::write_all(STDOUT, &out[..at]);
+impl Model for Printer {
+    ghost use Rattle.std.specs.Prelude.{◌≤◌};
+    ghost use Rattle.lines.specs.Put.{Output, output};
+
+    ghost Value = { Output };
+
+    ghost view = { λ p. output p.place p.block };
+
+    ghost invariant = { λ p. p.place ≤ 4096 };
+}
+
+impl Printer {
+    pub fn new() -> Printer
+        ensures { result.place ≡ 0 }
+    {
+        Printer {
+            place: 0,
+            block: io::buffer(),
+        }
     }
-}
 
-// Writes the bytes before `at` to standard output, and answers where the next block begins. No contract can say what is written.
-pub fn flush(out: &Block, at: usize) -> usize
-    ensures { result ≡ 0 }
-{
-    write_part(out, at);
-    0
-}
-
-// Puts a byte behind the place `at`, and answers the place behind it.
-pub fn put_byte(out: &mut Block, at: usize, byte: u8) -> usize
-    ensures { output result out.new ≡ put (output at out.old) (byte ∷ []) }
-{
-    if at < 4096 {
-        out[at] = byte;
-        return at + 1;
+    // Writes the bytes that wait to standard output. No contract can say what is written.
+    pub fn flush(&mut self)
+        ensures { self.new ≡ output 0 self.old.bytes }
+    {
+        io::write_all(STDOUT, &self.block[..self.place]);
+        self.place = 0;
     }
-    flush(out, 4096);
-    out[0] = byte;
-    1
-}
 
-// Puts the bytes, and answers the place behind them.
-pub fn put_bytes(out: &mut Block, at: usize, bytes: &[u8]) -> usize
-    ensures { output result out.new ≡ put (output at out.old) bytes.now }
-{
-    let mut to = at;
-    let mut i = 0;
-    while i < bytes.len() {
-        to = put_byte(out, to, bytes[i]);
-        i += 1;
+    // Writes what waits, at the program's end.
+    pub fn finish(mut self) {
+        self.flush();
+        let Printer { place: _, block: _ } = self;
     }
-    to
-}
 
-// Puts the decimal digits of n.
-pub fn put_decimal(out: &mut Block, at: usize, n: u64) -> usize
-    ensures { output result out.new ≡ put (output at out.old) (decimal n) }
-{
-    let mut text = [0u8; 20];
-    let k = io::decimal(n, &mut text);
-    put_bytes(out, at, &text[..k])
-}
+    fn is_full(&self) -> bool
+        ensures { IsTrue result ↔ (4096 ≤ self.now.place) }
+    {
+        4096 <= self.place
+    }
 
-// Puts a space and the decimal digits of n.
-pub fn put_number(out: &mut Block, at: usize, n: usize) -> usize
-    ensures { output result out.new ≡ put (output at out.old) (number n) }
-{
-    let at = put_byte(out, at, b' ');
-    put_decimal(out, at, n as u64)
-}
+    pub fn put_byte(&mut self, byte: u8)
+        ensures { self.new ≡ put self.old (byte ∷ []) }
+    {
+        if self.is_full() {
+            self.flush();
+        }
+        self.block[self.place] = byte;
+        self.place += 1;
+    }
 
-// Puts a letter, and a number behind it.
-pub fn put_letter(out: &mut Block, at: usize, letter: u8, n: usize) -> usize
-    ensures { output result out.new ≡ put (output at out.old) (letter ∷ number n) }
-{
-    let at = put_byte(out, at, letter);
-    put_number(out, at, n)
+    pub fn put_bytes(&mut self, bytes: &[u8])
+        ensures { self.new ≡ put self.old bytes.now }
+    {
+        for &byte in bytes {
+            self.put_byte(byte);
+        }
+    }
+
+    // Puts the decimal digits of n. `write!` promises its text only where it answers `Ok`, and no clause says that it does; this cannot fail.
+    pub fn put_decimal(&mut self, n: u64)
+        ensures { self.new ≡ put self.old (decimal n) }
+    {
+        let mut text = [0u8; 20];
+        let k = io::decimal(n, &mut text);
+        self.put_bytes(&text[..k]);
+    }
+
+    // Puts a space and the decimal digits of n.
+    pub fn put_number(&mut self, n: usize)
+        ensures { self.new ≡ put self.old (number n) }
+    {
+        self.put_byte(b' ');
+        self.put_decimal(n as u64);
+    }
+
+    // Puts a letter, and a number behind it.
+    pub fn put_letter(&mut self, letter: u8, n: usize)
+        ensures { self.new ≡ put self.old (letter ∷ number n) }
+    {
+        self.put_byte(letter);
+        self.put_number(n);
+    }
+
+    // Puts the words of an item: `L place`, `A place length` or `E place`.
+    pub fn put_item(&mut self, item: ParsedItem)
+        ensures { self.new ≡ put self.old (item_text item) }
+    {
+        match item {
+            ParsedItem::ListStart { pos } => self.put_letter(b'L', pos),
+            ParsedItem::Atom { pos, len } => {
+                self.put_letter(b'A', pos);
+                self.put_number(len);
+            }
+            ParsedItem::ListEnd { pos } => self.put_letter(b'E', pos),
+        }
+    }
 }

@@ -42,56 +42,43 @@
 mod tree_case;
 mod writer_case;
 
-ghost use Rattle.std.specs.Prelude.{◌<◌, length};
-ghost use Rattle.script.specs.Script.{Onward};
+ghost use Rattle.std.specs.Prelude.{OnOk};
+ghost use Rattle.script.specs.Onward.{Onward};
 
-use lines::Block;
-use script::Ran;
+use lines::Printer;
+use script::{Malformed, Script};
 
-// Runs the case that begins at `from`.
-fn run_case(out: &mut Block, at: usize, script: &[u8], from: usize) -> Ran
-    requires { from < length script.now }
-    ensures { Onward from result }
+// Runs the case whose letter was read.
+fn run_case(out: &mut Printer, letter: u8, script: &mut Script<'_>) -> Result<(), Malformed>
+    ensures { OnOk result (Onward script.old script.new) }
 {
-    match script[from] {
-        b'R' => replay_reader::run(out, at, script, from + 1),
-        b'W' => writer_case::run(out, at, script, from + 1),
-        b'T' => tree_case::run(out, at, script, from + 1),
-        _ => Ran::Malformed { place: at },
+    match letter {
+        b'R' => replay_reader::run(out, script),
+        b'W' => writer_case::run(out, script),
+        b'T' => tree_case::run(out, script),
+        _ => Err(Malformed),
     }
 }
 
-fn run_script(script: &[u8]) {
-    let mut out = io::buffer();
-    let mut at = 0;
-    let mut from = 0;
-    while from < script.len() {
-        match run_case(&mut out, at, script, from) {
-            Ran::Case { place, next } => {
-                at = place;
-                from = next;
-            }
-            Ran::Malformed { place } => {
-                at = lines::put_bytes(&mut out, place, b"malformed\n");
-                break;
-            }
-        }
+fn run_script(out: &mut Printer, script: &mut Script<'_>) -> Result<(), Malformed> {
+    while let Some(letter) = script.next_byte() {
+        run_case(out, letter, script)?;
     }
-    lines::flush(&out, at);
+    Ok(())
 }
 
-// Runs the script on standard input, which is read into the buffer.
-fn run_input(script: &mut [u8]) {
-    let n = io::read_full(lines::STDIN, script);
-    run_script(&script[..n]);
-}
-
-// The array's length comes from the parameter's type, and not from a proof that counts its zeros.
-fn run_array(script: &mut [u8; 1048576]) {
-    run_input(script);
+// Runs the script on standard input, which is read into the array. The array's length comes from the parameter's type, and not from a proof that counts
+// its zeros.
+fn run_input(bytes: &mut [u8; 1048576]) {
+    let n = io::read_full(lines::STDIN, bytes);
+    let mut out = Printer::new();
+    if run_script(&mut out, &mut Script::new(&bytes[..n])).is_err() {
+        out.put_bytes(b"malformed\n");
+    }
+    out.finish();
 }
 
 fn main() {
-    let mut script = [0; 1048576];
-    run_array(&mut script);
+    let mut bytes = [0; 1048576];
+    run_input(&mut bytes);
 }

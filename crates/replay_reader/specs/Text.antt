@@ -1,6 +1,7 @@
 -- The reader's record as replay prints it.
 -- Assumes nothing.
 use Rattle.std.specs.Prelude.{List, ◌∷◌, ◌++◌, ℕ}
+use Rattle.sise_parser.specs.Refusals.{Refusal}
 use Rattle.sise_parser.specs.declared.reader.Phase.{Phase}
 use Rattle.sise_parser.specs.declared.reader.Reader.{Reader}
 use Rattle.lines.specs.Put.{number}
@@ -13,3 +14,7 @@ phase_number Phase.Finishing = 2
 -- ` | position phase lists`
 unfoldable pub reader_text : Reader → List ℕ
 reader_text r = 32 ∷ 124 ∷ (number r.position ++ number (phase_number r.phase) ++ number r.lists)
+
+-- `! number place code`
+unfoldable pub refusal_text : Refusal → List ℕ
+refusal_text r = 33 ∷ (number r.number ++ number r.place ++ number r.code)

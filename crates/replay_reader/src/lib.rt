@@ -1,114 +1,75 @@
 // The reader's cases of a script.
 #![tactic(auto)]
 
-ghost use Rattle.std.specs.Prelude.{◌≡◌};
-ghost use Rattle.script.specs.Script.{Onward};
-ghost use Rattle.lines.specs.Put.{output, put};
-ghost use Rattle.replay_reader.specs.Text.{phase_number, reader_text};
+ghost use Rattle.std.specs.Prelude.{◌≡◌, OnOk};
+ghost use Rattle.script.specs.Onward.{Onward};
+ghost use Rattle.lines.specs.Put.{put};
+ghost use Rattle.replay_reader.specs.Text.{reader_text, refusal_text};
 
-use lines::{Block, put_item, put_letter, put_number};
-use script::{Ran, TextCase, read_text_case};
-use sise_parser::{Answer, Finished, ParseError, ParsedItem, Phase, Reader, atom_bytes};
+use lines::Printer;
+use script::{Malformed, Script, TextCase};
+use sise_parser::{Next, ParseError, ParsedItem, Reader, Refusal, atom_bytes};
 
-fn put_error(out: &mut Block, at: usize, error: ParseError) -> usize {
-    let at = put_letter(out, at, b'!', error.number() as usize);
-    let at = put_number(out, at, error.place());
-    put_number(out, at, error.code() as usize)
-}
-
-fn put_answer(out: &mut Block, at: usize, answer: Answer) -> usize {
-    match answer {
-        Answer::Item(item) => put_item(out, at, item),
-        Answer::Refused(error) => put_error(out, at, error),
-    }
-}
-
-fn phase_number(phase: Phase) -> usize
-    ensures { result ≡ phase_number phase }
+// A refusal: its number, its place and its code point.
+pub fn put_refusal<E: Refusal>(out: &mut Printer, error: E)
+    ensures { out.new ≡ put out.old (refusal_text (E.meaning error)) }
 {
-    match phase {
-        Phase::Beginning => 0,
-        Phase::Parsing => 1,
-        Phase::Finishing => 2,
-    }
+    out.put_letter(b'!', error.number() as usize);
+    out.put_number(error.place());
+    out.put_number(error.code() as usize);
 }
 
 // The record, behind a bar: position, phase and lists.
-pub fn put_reader(out: &mut Block, at: usize, reader: Reader) -> usize
-    ensures { output result out.new ≡ put (output at out.old) (reader_text reader) }
+pub fn put_reader(out: &mut Printer, reader: Reader)
+    ensures { out.new ≡ put out.old (reader_text reader) }
 {
-    let phase = reader.phase;
-    let at = lines::put_bytes(out, at, b" |");
-    let at = put_number(out, at, reader.position);
-    let at = put_number(out, at, phase_number(phase));
-    put_number(out, at, reader.lists)
+    out.put_bytes(b" |");
+    out.put_number(reader.position);
+    out.put_number(reader.phase as usize);
+    out.put_number(reader.lists);
 }
 
-fn put_atom_of(out: &mut Block, at: usize, text: &[u8], answer: Answer) -> usize {
-    let Answer::Item(item) = answer else {
-        return at;
-    };
-    let ParsedItem::Atom { pos, len } = item else {
-        return at;
-    };
-    let at = lines::put_bytes(out, at, b" | ");
-    lines::put_bytes(out, at, atom_bytes(text, pos, len))
+// The line of a next_item call.
+fn put_call(out: &mut Printer, text: &[u8], next: Next) {
+    match next.answer {
+        Ok(item) => out.put_item(item),
+        Err(error) => put_refusal(out, error),
+    }
+    put_reader(out, next.reader);
+    if let Ok(ParsedItem::Atom { pos, len }) = next.answer {
+        out.put_bytes(b" | ");
+        out.put_bytes(atom_bytes(text, pos, len));
+    }
+    out.put_byte(b'\n');
 }
 
-// The line of a next_item call that left the record `reader`.
-fn put_call(out: &mut Block, at: usize, text: &[u8], reader: Reader, answer: Answer) -> usize {
-    let at = put_answer(out, at, answer);
-    let at = put_reader(out, at, reader);
-    let at = put_atom_of(out, at, text, answer);
-    lines::put_byte(out, at, b'\n')
-}
-
-fn put_finished(out: &mut Block, at: usize, finished: Finished) -> usize {
+// The line of a finish call.
+fn put_finished(out: &mut Printer, finished: Result<(), ParseError>) {
     match finished {
-        Finished::Done => lines::put_bytes(out, at, b"ok\n"),
-        Finished::Refused(error) => {
-            let at = put_error(out, at, error);
-            lines::put_byte(out, at, b'\n')
-        }
+        Ok(()) => out.put_bytes(b"ok"),
+        Err(error) => put_refusal(out, error),
     }
+    out.put_byte(b'\n');
 }
 
-fn put_case(out: &mut Block, from: usize, text: &[u8], calls: usize, finish: bool) -> usize {
-    let mut at = lines::put_bytes(out, from, b"case\n");
+fn put_case(out: &mut Printer, case: TextCase<'_>) {
+    out.put_bytes(b"case\n");
     let mut reader = Reader::new();
-    let mut left = calls;
-    while 0 < left {
-        left -= 1;
-        let next = reader.next_item(text);
+    for _ in 0..case.calls {
+        let next = reader.next_item(case.text);
+        put_call(out, case.text, next);
         reader = next.reader;
-        let answer = next.answer;
-        at = put_call(out, at, text, reader, answer);
     }
-    if finish {
-        put_finished(out, at, reader.finish(text))
-    } else {
-        at
+    if case.last == 1 {
+        put_finished(out, reader.finish(case.text));
     }
 }
 
-// Runs the reader's case whose letter stands before `from`.
-pub fn run(out: &mut Block, at: usize, script: &[u8], from: usize) -> Ran
-    ensures { Onward from result }
+// Runs the reader's case whose letter was read.
+pub fn run(out: &mut Printer, script: &mut Script<'_>) -> Result<(), Malformed>
+    ensures { OnOk result (Onward script.old script.new) }
 {
-    match read_text_case(script, from, 1) {
-        TextCase::Read {
-            start,
-            len,
-            calls,
-            last,
-        } => {
-            let end = start + len;
-            let place = put_case(out, at, &script[start..end], calls, last == 1);
-            Ran::Case {
-                place,
-                next: end + 1,
-            }
-        }
-        TextCase::Malformed => Ran::Malformed { place: at },
-    }
+    let case = script.read_text_case(1)?;
+    put_case(out, case);
+    Ok(())
 }

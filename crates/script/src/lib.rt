@@ -3,231 +3,219 @@
 
 mod tree;
 
-ghost use Rattle.std.specs.Prelude.{◌≡◌, length};
-ghost use Rattle.script.specs.Script.{number_meant, NumberFrom, TextFrom, StyleFrom, CallFrom};
+ghost use Rattle.std.specs.Prelude.{◌≡◌, [], ◌∷◌, ◌++◌, ◌<◌, MatchOption, IfOk, IfSome, OnOk};
+ghost use Rattle.script.specs.Onward.{Onward};
+ghost use Rattle.script.specs.Script.{number_meant, TextFrom, StyleFrom, CallFrom};
 
-pub use tree::{Numbers, TreeCalls, TreeLine, read_numbers, read_tree_line};
+use std::marker::Model;
+pub use tree::TreeCalls;
 
 // The number that stands for the largest of 64 bits.
 const LARGEST: usize = 999999999;
 
-// A case that was run, with the output's place after its answers and the next case's place in the script; or one that cannot be run to
-// its end.
+// The next part of the script is not what was to be read.
+#[derive(Clone, Copy, Debug, Drop, PartialEq, Eq)]
+pub struct Malformed;
+
+// The fields of a case that begins with a text: the text, the number of next_item calls, and the last number of the line.
 #[derive(Clone, Copy)]
-pub enum Ran {
-    Case { place: usize, next: usize },
-    Malformed { place: usize },
+pub struct TextCase<'a> {
+    pub text: &'a [u8],
+    pub calls: usize,
+    pub last: usize,
 }
 
-// A number, and the place after the byte that ends it.
+// The fields of a writer's line: the buffer's length, the line break, the indentation, and the number of calls.
 #[derive(Clone, Copy)]
-pub enum Number {
-    Read(usize, usize),
-    Malformed,
+pub struct WriterCase<'a> {
+    pub room: usize,
+    pub line_break: &'a [u8],
+    pub indentation: &'a [u8],
+    pub calls: usize,
 }
 
-// The fields of a case that begins with a text: where the text begins, its length, the number of next_item calls, and the last number of the line.
+// A writer's call.
 #[derive(Clone, Copy)]
-pub enum TextCase {
-    Read {
-        start: usize,
-        len: usize,
-        calls: usize,
-        last: usize,
-    },
-    Malformed,
-}
-
-// The fields of a writer's line: the buffer's length, where the line break begins, its length and that of the indentation after it, and the number of
-// calls.
-#[derive(Clone, Copy)]
-pub enum WriterCase {
-    Read {
-        room: usize,
-        start: usize,
-        line_break: usize,
-        indentation: usize,
-        calls: usize,
-    },
-    Malformed,
-}
-
-// What a writer's call asks for: its letter, its threshold or wish, and where an atom begins and ends.
-#[derive(Clone, Copy)]
-pub struct Asked {
-    pub letter: u8,
-    pub number: usize,
-    pub start: usize,
-    pub end: usize,
-}
-
-// A writer's call, and the next one's place.
-#[derive(Clone, Copy)]
-pub enum Call {
-    Read(Asked, usize),
-    Malformed,
+pub enum Call<'a> {
+    PutAtom { atom: &'a [u8], break_line_at: u64 },
+    BeginList { break_line_at: u64 },
+    EndList,
+    Finish { line_break: bool },
 }
 
 // The number of 64 bits that a number of the script stands for.
+#[tactic(auto, unfolding(crate::specs::Script::number_meant))]
 pub fn meant(number: usize) -> u64
     ensures { result ≡ number_meant number }
 {
     if number == LARGEST {
-        18446744073709551615
+        u64::MAX
     } else {
         number as u64
     }
 }
 
-// 10 for a byte that is no digit.
-fn digit_value(byte: u8) -> usize {
+fn digit_value(byte: u8) -> Option<usize>
+    ensures { IfSome result (λ digit. digit < 10) }
+{
     match byte {
-        b'0'..=b'9' => (byte - b'0') as usize,
-        _ => 10,
+        b'0'..=b'9' => Some((byte - b'0') as usize),
+        _ => None,
     }
 }
 
-// The number that begins at `from` and ends before the byte `end`. One of 1,000,000,000 or more is malformed, so that no sum wraps.
-pub fn read_number(script: &[u8], from: usize, end: u8) -> Number
-    ensures { NumberFrom from (length script.now) result }
-{
-    let mut value: usize = 0;
-    let mut at = from;
-    while at < script.len() {
-        if script[at] == end && from < at {
-            return Number::Read(value, at + 1);
+// A script that is read from its front. A clause sees the bytes that are left.
+#[derive(Drop)]
+pub struct Script<'a> {
+    rest: &'a [u8],
+}
+
+impl<'a> Model for Script<'a> {
+    ghost use Rattle.std.specs.Prelude.{List, ℕ};
+
+    ghost Value = { List ℕ };
+
+    ghost view = { λ s. s.rest.now };
+}
+
+impl<'a> Script<'a> {
+    pub fn new(bytes: &'a [u8]) -> Script<'a>
+        ensures { result ≡ bytes.now }
+    {
+        Script { rest: bytes }
+    }
+
+    // The next byte, which is read with it.
+    pub fn next_byte(&mut self) -> Option<u8>
+        ensures { MatchOption result (self.old ≡ []) (λ byte. self.old ≡ byte ∷ self.new) }
+    {
+        let (first, rest) = self.rest.split_first()?;
+        self.rest = rest;
+        Some(*first)
+    }
+
+    // Reads the byte, which has to come next.
+    pub fn read_byte(&mut self, byte: u8) -> Result<(), Malformed>
+        ensures { OnOk result (self.old ≡ byte ∷ self.new) }
+    {
+        if self.next_byte() == Some(byte) {
+            Ok(())
+        } else {
+            Err(Malformed)
         }
-        let digit = digit_value(script[at]);
-        if 9 < digit || 99999999 < value {
-            return Number::Malformed;
+    }
+
+    fn read_bytes(&mut self, len: usize) -> Result<&'a [u8], Malformed>
+        ensures { IfOk result (λ bytes. self.old ≡ bytes.now ++ self.new) }
+    {
+        let (bytes, rest) = self.rest.split_at_checked(len).ok_or(Malformed)?;
+        self.rest = rest;
+        Ok(bytes)
+    }
+
+    // So many bytes, and the line end after them.
+    fn read_text(&mut self, len: usize) -> Result<&'a [u8], Malformed>
+        ensures { IfOk result (λ text. self.old ≡ text.now ++ 10 ∷ self.new) }
+    {
+        let text = self.read_bytes(len)?;
+        self.read_byte(b'\n')?;
+        Ok(text)
+    }
+
+    // The number that ends before the byte `end`. One of 1,000,000,000 or more is malformed, so that no sum wraps.
+    pub fn read_number(&mut self, end: u8) -> Result<usize, Malformed>
+        ensures { OnOk result (Onward self.old self.new) }
+    {
+        let mut value = 0;
+        for (at, &byte) in self.rest.iter().enumerate() {
+            if byte == end && 0 < at {
+                self.rest = &self.rest[at + 1..];
+                return Ok(value);
+            }
+            let digit = digit_value(byte).ok_or(Malformed)?;
+            if 99999999 < value {
+                return Err(Malformed);
+            }
+            value = value * 10 + digit;
         }
-        value = value * 10 + digit;
-        at += 1;
+        Err(Malformed)
     }
-    Number::Malformed
-}
 
-// A space and a number after it.
-pub fn read_field(script: &[u8], from: usize, end: u8) -> Number
-    ensures { NumberFrom from (length script.now) result }
-{
-    if script.len() <= from || script[from] != b' ' {
-        return Number::Malformed;
+    // A space and a number after it.
+    pub fn read_field(&mut self, end: u8) -> Result<usize, Malformed>
+        ensures { OnOk result (Onward self.old self.new) }
+    {
+        self.read_byte(b' ')?;
+        self.read_number(end)
     }
-    read_number(script, from + 1, end)
-}
 
-// The case whose letter stands before `from`, with a last number of `most` at most: its text and the line end after it lie in the script.
-pub fn read_text_case(script: &[u8], from: usize, most: usize) -> TextCase
-    ensures { TextFrom from (length script.now) most result }
-{
-    let Number::Read(len, at) = read_field(script, from, b' ') else {
-        return TextCase::Malformed;
-    };
-    let Number::Read(calls, at) = read_number(script, at, b' ') else {
-        return TextCase::Malformed;
-    };
-    let Number::Read(last, start) = read_number(script, at, b'\n') else {
-        return TextCase::Malformed;
-    };
-    if most < last || script.len() - start <= len || script[start + len] != b'\n' {
-        return TextCase::Malformed;
+    // The case whose letter was read, with a last number of `most` at most.
+    pub fn read_text_case(&mut self, most: usize) -> Result<TextCase<'a>, Malformed>
+        ensures { IfOk result (TextFrom self.old self.new most) }
+    {
+        let len = self.read_field(b' ')?;
+        let calls = self.read_number(b' ')?;
+        let last = self.read_number(b'\n')?;
+        if most < last {
+            return Err(Malformed);
+        }
+        let text = self.read_text(len)?;
+        Ok(TextCase { text, calls, last })
     }
-    TextCase::Read {
-        start,
-        len,
-        calls,
-        last,
-    }
-}
 
-// The writer's line whose letter stands before `from`: its style and the line end after it lie in the script.
-pub fn read_writer_case(script: &[u8], from: usize) -> WriterCase
-    ensures { StyleFrom from (length script.now) result }
-{
-    let Number::Read(room, at) = read_field(script, from, b' ') else {
-        return WriterCase::Malformed;
-    };
-    let Number::Read(line_break, at) = read_number(script, at, b' ') else {
-        return WriterCase::Malformed;
-    };
-    let Number::Read(indentation, at) = read_number(script, at, b' ') else {
-        return WriterCase::Malformed;
-    };
-    let Number::Read(calls, start) = read_number(script, at, b'\n') else {
-        return WriterCase::Malformed;
-    };
-    if 4096 < room || 1048576 < line_break || 1048576 < indentation {
-        return WriterCase::Malformed;
+    // The writer's line whose letter was read.
+    pub fn read_writer_case(&mut self) -> Result<WriterCase<'a>, Malformed>
+        ensures { IfOk result (StyleFrom self.old self.new) }
+    {
+        let room = self.read_field(b' ')?;
+        let line_break_len = self.read_number(b' ')?;
+        let indentation_len = self.read_number(b' ')?;
+        let calls = self.read_number(b'\n')?;
+        if 4096 < room {
+            return Err(Malformed);
+        }
+        let line_break = self.read_bytes(line_break_len)?;
+        let indentation = self.read_text(indentation_len)?;
+        Ok(WriterCase {
+            room,
+            line_break,
+            indentation,
+            calls,
+        })
     }
-    let len = line_break + indentation;
-    if script.len() - start <= len || script[start + len] != b'\n' {
-        return WriterCase::Malformed;
-    }
-    WriterCase::Read {
-        room,
-        start,
-        line_break,
-        indentation,
-        calls,
-    }
-}
 
-// A put_atom whose letter stands before `from`: the atom and the line end after it lie in the script.
-fn read_atom_call(script: &[u8], from: usize) -> Call
-    ensures { CallFrom from (length script.now) result }
-{
-    let Number::Read(len, at) = read_field(script, from, b' ') else {
-        return Call::Malformed;
-    };
-    let Number::Read(number, start) = read_number(script, at, b'\n') else {
-        return Call::Malformed;
-    };
-    if script.len() - start <= len || script[start + len] != b'\n' {
-        return Call::Malformed;
+    // A put_atom whose letter was read.
+    fn read_atom_call(&mut self) -> Result<Call<'a>, Malformed>
+        ensures { IfOk result (CallFrom self.old self.new) }
+    {
+        let len = self.read_field(b' ')?;
+        let number = self.read_number(b'\n')?;
+        let atom = self.read_text(len)?;
+        Ok(Call::PutAtom {
+            atom,
+            break_line_at: meant(number),
+        })
     }
-    let end = start + len;
-    let asked = Asked {
-        letter: b'A',
-        number,
-        start,
-        end,
-    };
-    Call::Read(asked, end + 1)
-}
 
-// Another call, of one number, `most` at most, whose letter stands before `from`.
-fn read_short_call(script: &[u8], from: usize, letter: u8, most: usize) -> Call
-    ensures { CallFrom from (length script.now) result }
-{
-    let Number::Read(number, next) = read_field(script, from, b'\n') else {
-        return Call::Malformed;
-    };
-    if most < number {
-        return Call::Malformed;
-    }
-    let asked = Asked {
-        letter,
-        number,
-        start: next,
-        end: next,
-    };
-    Call::Read(asked, next)
-}
-
-// The call that begins at `from`.
-pub fn read_call(script: &[u8], from: usize) -> Call
-    ensures { CallFrom from (length script.now) result }
-{
-    if script.len() <= from {
-        return Call::Malformed;
-    }
-    let letter = script[from];
-    match letter {
-        b'A' => read_atom_call(script, from + 1),
-        b'(' => read_short_call(script, from + 1, letter, LARGEST),
-        b')' => read_short_call(script, from + 1, letter, 0),
-        b'F' => read_short_call(script, from + 1, letter, 1),
-        _ => Call::Malformed,
+    pub fn read_call(&mut self) -> Result<Call<'a>, Malformed>
+        ensures { IfOk result (CallFrom self.old self.new) }
+    {
+        let Some(letter) = self.next_byte() else {
+            return Err(Malformed);
+        };
+        if letter == b'A' {
+            return self.read_atom_call();
+        }
+        let number = self.read_field(b'\n')?;
+        match (letter, number) {
+            (b'(', _) => Ok(Call::BeginList {
+                break_line_at: meant(number),
+            }),
+            (b')', 0) => Ok(Call::EndList),
+            (b'F', 0 | 1) => Ok(Call::Finish {
+                line_break: number == 1,
+            }),
+            _ => Err(Malformed),
+        }
     }
 }

@@ -1,83 +1,51 @@
 // The parts of a script that trees alone have.
-ghost use Rattle.std.specs.Prelude.{length};
-ghost use Rattle.script.specs.Script.{TreeFrom, NumbersFrom};
+ghost use Rattle.std.specs.Prelude.{◌≤◌, length, IfOk, OnOk};
+ghost use Rattle.script.specs.Onward.{Onward};
+ghost use Rattle.script.specs.Script.{NumbersFrom};
 
-use crate::{Number, meant, read_field, read_number};
+use crate::{Malformed, Script, meant};
 
 // What a tree's line asks for: how many lists the writer has open, the threshold, the table's first word that the tree calls are lent, and the number
 // of paths.
 #[derive(Clone, Copy)]
 pub struct TreeCalls {
     pub lists: usize,
-    pub threshold: usize,
+    pub break_line_at: u64,
     pub first: usize,
     pub paths: usize,
 }
 
-// A tree's line, and the place after it.
-#[derive(Clone, Copy)]
-pub enum TreeLine {
-    Read(TreeCalls, usize),
-    Malformed,
-}
+impl Script<'_> {
+    // The tree's line.
+    pub fn read_tree_line(&mut self) -> Result<TreeCalls, Malformed>
+        ensures { OnOk result (Onward self.old self.new) }
+    {
+        self.read_byte(b'P')?;
+        let lists = self.read_field(b' ')?;
+        let threshold = self.read_number(b' ')?;
+        let first = self.read_number(b' ')?;
+        let paths = self.read_number(b'\n')?;
+        Ok(TreeCalls {
+            lists,
+            break_line_at: meant(threshold),
+            first,
+            paths,
+        })
+    }
 
-// How many numbers a list has, and where its line ends.
-#[derive(Clone, Copy)]
-pub enum Numbers {
-    Read(usize, usize),
-    Malformed,
-}
-
-// The tree's line at `from`.
-pub fn read_tree_line(script: &[u8], from: usize) -> TreeLine
-    ensures { TreeFrom from (length script.now) result }
-{
-    if script.len() <= from || script[from] != b'P' {
-        return TreeLine::Malformed;
+    // A list of numbers, as many as `list` has room for at most, which are read into it.
+    pub fn read_numbers<'l>(&mut self, list: &'l mut [u64]) -> Result<&'l [u64], Malformed>
+        ensures { IfOk result (NumbersFrom self.old self.new (length list.old)) }
+    {
+        let count = self.read_number(b' ')?;
+        if list.len() < count {
+            return Err(Malformed);
+        }
+        let numbers = &mut list[..count];
+        for number in numbers.iter_mut() {
+            *number = meant(self.read_number(b' ')?);
+        }
+        self.read_byte(b'\n')?;
+        Ok(numbers)
     }
-    let Number::Read(lists, at) = read_field(script, from + 1, b' ') else {
-        return TreeLine::Malformed;
-    };
-    let Number::Read(threshold, at) = read_number(script, at, b' ') else {
-        return TreeLine::Malformed;
-    };
-    let Number::Read(first, at) = read_number(script, at, b' ') else {
-        return TreeLine::Malformed;
-    };
-    let Number::Read(paths, next) = read_number(script, at, b'\n') else {
-        return TreeLine::Malformed;
-    };
-    let calls = TreeCalls {
-        lists,
-        threshold,
-        first,
-        paths,
-    };
-    TreeLine::Read(calls, next)
-}
-
-// The list of numbers at `from`, taken as far as `list` has room.
-pub fn read_numbers(script: &[u8], from: usize, list: &mut [u64]) -> Numbers
-    ensures { NumbersFrom from (length script.now) (length list.old) result }
-{
-    let Number::Read(count, next) = read_number(script, from, b' ') else {
-        return Numbers::Malformed;
-    };
-    if list.len() < count {
-        return Numbers::Malformed;
-    }
-    let mut at = next;
-    let mut i = 0;
-    while i < count {
-        let Number::Read(number, next) = read_number(script, at, b' ') else {
-            return Numbers::Malformed;
-        };
-        list[i] = meant(number);
-        at = next;
-        i += 1;
-    }
-    if script.len() <= at || script[at] != b'\n' {
-        return Numbers::Malformed;
-    }
-    Numbers::Read(count, at)
 }

@@ -11,8 +11,7 @@ use Rattle.sise_parser.specs.Refusals.{Refusal, refusal_of}
 use Rattle.sise_parser.specs.Reader.{fresh_reader, is_sound, item, refused, Next, next, next_item}
 use Rattle.sise_parser.specs.Meaning.{answer_as, next_as}
 use Rattle.sise_parser.specs.declared.error.ParseError.{ParseError}
-use Rattle.sise_parser.specs.declared.reader.Answer.{Answer}
-use Rattle.sise_parser.specs.declared.reader.Answer.TheVariants.{Item, Refused}
+use Rattle.std.specs.Prelude.{Result, Ok, Err}
 use Rattle.sise_parser.specs.declared.reader.Next.{Next as ReaderNext}
 use Rattle.sise_parser.specs.declared.reader.ParsedItem.{ParsedItem}
 use Rattle.sise_parser.specs.declared.reader.ParsedItem.TheVariants.{Atom, ListStart, ListEnd}
@@ -40,11 +39,11 @@ ending_all text {r} e = ap (λ (k : ℕ). ending_from k text r) (none_read text)
 
 -- what a call answered
 module _ (text : List ℕ) (r : Reader) {m : ReaderNext} (e : next_as m ≡ next_item text r) where
-  pub gave_item : {i : ParsedItem} → m.answer ≡ Item i → next_item text r ≡ next m.reader (item i)
-  gave_item d = sym e ∙ ap (λ (a : Answer). next m.reader (answer_as a)) d
+  pub gave_item : {i : ParsedItem} → m.answer ≡ Ok i → next_item text r ≡ next m.reader (item i)
+  gave_item d = sym e ∙ ap (λ (a : Result ParsedItem ParseError). next m.reader (answer_as a)) d
 
-  pub gave_refusal : {f : ParseError} → m.answer ≡ Refused f → next_item text r ≡ next m.reader (refused (refusal_of f))
-  gave_refusal d = sym e ∙ ap (λ (a : Answer). next m.reader (answer_as a)) d
+  pub gave_refusal : {f : ParseError} → m.answer ≡ Err f → next_item text r ≡ next m.reader (refused (refusal_of f))
+  gave_refusal d = sym e ∙ ap (λ (a : Result ParsedItem ParseError). next m.reader (answer_as a)) d
 
 -- one call of the definitions
 module _ (text : List ℕ) (r : Reader) {q : Reader} (k : ℕ) where

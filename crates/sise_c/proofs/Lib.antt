@@ -1,4 +1,3 @@
-pub mod Reporting
 pub mod ItemLaws
 pub mod ItemCalls
 pub mod RecordLaws

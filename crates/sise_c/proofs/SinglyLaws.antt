@@ -1,10 +1,9 @@
--- What a call over a record's words leaves, by what the code finds in them: no record, or one, of which the call promises what the method does.
+-- A list of one call does what the call does over a record's words; and what calls over a record's words leave.
 -- Assumes nothing.
 use Prim.Native.Nat.{ℕ, ◌+◌, ◌-◌, ◌^◌, ◌≤◌, ◌<◌, min}
 use native.Mathlib.Omega.{arith}
 use mathlib.Core.Path.{◌≡◌, refl, sym, ap, ◌∙◌, subst}
 use mathlib.Core.Bool.{Bool, true, false, cond, false≢true}
-use mathlib.Core.Option.{Option, none, some}
 use mathlib.Core.List.{List, [], ◌∷◌, map}
 use lib.Dec.{leb}
 use lib.ListN.{length, get_or, take}
@@ -12,20 +11,14 @@ use lib.Seq.{take_all}
 use borrow.Author.Tests.{leb-true, le-leb, lt-leb}
 use Rattle.sise_util.specs.Atom.{is_atom}
 use Rattle.sise_util.proofs.Ranges.{split}
-use Rattle.sise_parser.specs.Refusals.{Refusal, refusal_of}
+use Rattle.sise_parser.specs.Refusals.{Refusal}
 use Rattle.sise_parser.specs.Reader.{next_item, finish_reading}
-use Rattle.sise_parser.specs.Meaning.{answer_as, next_as, finished_as}
-use Rattle.sise_parser.specs.declared.error.ParseError.{ParseError}
-use Rattle.sise_parser.specs.declared.reader.Answer as answers
-use Rattle.sise_parser.specs.declared.reader.Answer.TheVariants as answer
-use Rattle.sise_parser.specs.declared.reader.Finished.{Finished}
-use Rattle.sise_parser.specs.declared.reader.Next.{Next}
 use Rattle.sise_parser.specs.declared.reader.Reader.{Reader}
 use Rattle.sise_serializer.specs.Bytes.{pasted}
 use Rattle.sise_serializer.specs.Calls.{Call, put_atom_call, begin_list_call, end_list_call, finish_call, step, Run, run}
 use Rattle.sise_serializer.specs.Serializer as serializer
 use Rattle.sise_serializer.specs.Serializer.{Style, accepted, Written, refuse, Piece, limit, is_sound, place, first_atom, first_list, inner, close, last, put_in, put_atom, begin_in, begin_list, end_in, end_list, finish_in, finish_writing}
-use Rattle.sise_serializer.specs.Words.{call_of, decoded, calls_of, answer_word, RunsFrom}
+use Rattle.sise_serializer.specs.Words.{call_of, call_at, decoded, calls_of, answer_word, RunsFrom}
 use Rattle.sise_serializer.specs.declared.calls.Ran.{Ran}
 use Rattle.sise_serializer.specs.declared.serializer.Phase.{Phase}
 use Rattle.sise_serializer.specs.declared.serializer.Phase.TheVariants as phase
@@ -35,52 +28,12 @@ use Rattle.sise_serializer.proofs.Bytes.{pasted_none}
 use Rattle.sise_serializer.proofs.Does.{unsound_call}
 use Rattle.sise_serializer.proofs.Verdicts.{Verdict, refuses, puts, verdict}
 use Rattle.sise_tree.specs.Answers.{Answer, answered, refused, refused_with}
-use Rattle.sise_c.specs.Kept.{reader_as, writer_as}
-use Rattle.sise_c.specs.Records.{reader_of, reader_words, serializer_of, serializer_words}
-use Rattle.sise_c.specs.Reports.{Reports}
-use Rattle.sise_c.specs.Singly.{ReportsNext, Stands, stands, next_by, next_of, ending_answer, finish_by, finish_of, put_answer, word_answer, Leaves, leaves, call_by, call_on}
-use Rattle.sise_c.specs.declared.reading.KeptReader.{KeptReader}
-use Rattle.sise_c.specs.declared.reading.KeptReader.TheVariants as reading
-use Rattle.sise_c.specs.declared.writing.KeptWriter.{KeptWriter}
-use Rattle.sise_c.specs.declared.writing.KeptWriter.TheVariants as writing
+use Rattle.std.specs.Prelude.{Option, None, Some, Result}
+use Rattle.sise_c.specs.Records.{reader_words, serializer_of, serializer_words}
+use Rattle.sise_c.specs.declared.report.Numbered.{Numbered}
+use Rattle.sise_c.specs.Reports.{Tells}
+use Rattle.sise_c.specs.Singly.{stands, next_by, next_of, ending_answer, finish_by, finish_of, put_answer, word_answer, leaves, call_by, call_on, Makes}
 use Rattle.sise_c.proofs.RecordLaws.{reader_kept, writer_kept, writer_words}
-use Rattle.sise_c.proofs.Reporting.{reports_by}
-
--- ---- the reader's calls
-
-pub next_refused : {a : answers.Answer} {x : ParseError} {n p k : ℕ} → a ≡ answer.Refused x → n ≡ (refusal_of x).number → p ≡ (refusal_of x).place → k ≡ (refusal_of x).code
-    → ReportsNext (answer_as a) n (0 ∷ p ∷ k ∷ [])
-next_refused {x = x} {n = n} {p = p} {k = k} e d f g =
-    subst (λ (a : answers.Answer). ReportsNext (answer_as a) n (0 ∷ p ∷ k ∷ [])) (sym e)
-    (record { result = d; values = ap (λ (z : ℕ). 0 ∷ z ∷ k ∷ []) f ∙ ap (λ (z : ℕ). 0 ∷ (refusal_of x).place ∷ z ∷ []) g })
-
-module _ (text ws : List ℕ) {k : KeptReader} (e : reader_as k ≡ reader_of ws) where
-  next_by_lem : {j : KeptReader} → k ≡ j → next_by text ws (reader_as j) ≡ next_of text ws
-  unfolding next_of
-  next_by_lem d = ap (next_by text ws) (sym (ap reader_as d) ∙ e)
-
-  pub next_unsound : k ≡ reading.Unsound → ReportsNext (next_of text ws).answer 11 (0 ∷ 0 ∷ 0 ∷ []) × (ws ≡ (next_of text ws).words)
-  unfolding next_by
-  next_unsound d = subst (λ (x : Stands). ReportsNext x.answer 11 (0 ∷ 0 ∷ 0 ∷ []) × (ws ≡ x.words)) (next_by_lem d) (record { result = refl; values = refl }, refl)
-
-  pub next_read : {r : Reader} (m : Next) {n : ℕ} {now words : List ℕ} → k ≡ reading.Is r → next_as m ≡ next_item text r → ReportsNext (answer_as m.answer) n now
-      → words ≡ reader_words m.reader → ReportsNext (next_of text ws).answer n now × (words ≡ (next_of text ws).words)
-  unfolding next_by
-  next_read m {n} {now} {words} d f t w =
-      subst (λ (x : Stands). ReportsNext x.answer n now × (words ≡ x.words)) (ap stands f ∙ next_by_lem d) (t, w)
-
-  finish_by_lem : {j : KeptReader} → k ≡ j → finish_of text ws ≡ finish_by text (reader_as j)
-  unfolding finish_of
-  finish_by_lem d = ap (finish_by text) (sym e ∙ ap reader_as d)
-
-  pub finish_unsound : k ≡ reading.Unsound → Reports (finish_of text ws) 11 (0 ∷ 0 ∷ [])
-  unfolding finish_by
-  finish_unsound d = reports_by (finish_by_lem d) refl (record { result = refl; values = refl })
-
-  pub finish_read : {r : Reader} {f g : Finished} {n : ℕ} {now : List ℕ} → k ≡ reading.Is r → finished_as f ≡ finish_reading text r → f ≡ g
-      → Reports (ending_answer (finished_as g)) n now → Reports (finish_of text ws) n now
-  unfolding finish_by
-  finish_read d h z t = reports_by (finish_by_lem d ∙ ap ending_answer (sym h ∙ ap finished_as z)) refl t
 
 -- ---- the writer's calls
 
@@ -173,63 +126,40 @@ one_call ws atoms s b w c r {bytes} {now} z d = split (is_sound w) sounds unsoun
           buffer = d.buffer ∙ ap (λ (x : Run). x.buffer) y ∙ sym (pasted_none b w.position) ∙ ap (λ (x : Written). pasted b w.position x.bytes) u;
         }
 
--- the words of one call
-calls_one : (atoms : List ℕ) (kind n t : ℕ) → kind ≤ 4 → calls_of (kind ∷ 0 ∷ n ∷ t ∷ []) atoms 1 ≡ call_of atoms kind 0 n t ∷ []
+-- four words, of which the first is a kind, are one call
+calls_one : (ws atoms : List ℕ) → length ws ≡ 4 → get_or ws 0 0 ≤ 4 → calls_of ws atoms 1 ≡ call_at ws atoms 0 ∷ []
 unfolding decoded
-calls_one atoms kind n t h = ap (λ (b : Bool). take 1 (cond b (call_of atoms kind 0 n t ∷ []) [])) (le-leb kind 4 h)
+calls_one (k ∷ p ∷ n ∷ t ∷ []) atoms e h = ap (λ (b : Bool). take 1 (cond b (call_of atoms k p n t ∷ []) [])) (le-leb k 4 h)
+calls_one [] atoms e h = absurd (omega (arith, e))
+calls_one (k ∷ []) atoms e h = absurd (omega (arith, e))
+calls_one (k ∷ p ∷ []) atoms e h = absurd (omega (arith, e))
+calls_one (k ∷ p ∷ n ∷ []) atoms e h = absurd (omega (arith, e))
+calls_one (k ∷ p ∷ n ∷ t ∷ x ∷ ws) atoms e h = absurd (omega (arith, e))
 
-pub one_made : (atoms : List ℕ) (kind n t : ℕ) (s : Style) (b : List ℕ) (w : Serializer) {c : Call} (r : Ran) {bytes now : List ℕ} → kind ≤ 4 → call_of atoms kind 0 n t ≡ c
-    → RunsFrom w s (kind ∷ 0 ∷ n ∷ t ∷ []) atoms b (4294967307 ∷ []) r bytes now → Made c s w b r.serializer now bytes
-one_made atoms kind n t s b w {c} r h e d = one_call (kind ∷ 0 ∷ n ∷ t ∷ []) atoms s b w c r (calls_one atoms kind n t h ∙ ap (λ (x : Call). x ∷ []) e) d
+pub one_made : (ws atoms : List ℕ) (s : Style) (b : List ℕ) (w : Serializer) (r : Ran) {bytes now : List ℕ} → length ws ≡ 4 → get_or ws 0 0 ≤ 4
+    → RunsFrom w s ws atoms b (4294967307 ∷ []) r bytes now → Made (call_at ws atoms 0) s w b r.serializer now bytes
+one_made ws atoms s b w r e h d = one_call ws atoms s b w (call_at ws atoms 0) r (calls_one ws atoms e h) d
 
 pub made_below : {c : Call} {s : Style} {w : Serializer} {buf : List ℕ} {r : Serializer} {answers bytes : List ℕ} → Made c s w buf r answers bytes → get_or answers 0 0 < 2 ^ 33
 made_below {c} {s} {w} {buf} d = subst (λ (l : List ℕ). get_or l 0 0 < 2 ^ 33) (sym d.answers) (word_below (step s (length buf) w c).answer (small s (length buf) w c))
 
--- the calls of the kinds
-pub atom_kind : (a : List ℕ) (t : ℕ) → call_of a 0 0 (length a) t ≡ put_atom_call a t
+-- the calls of the kinds whose words say more than the kind
+pub atom_kind : (a : List ℕ) (t : ℕ) → call_at (0 ∷ 0 ∷ length a ∷ t ∷ []) a 0 ≡ put_atom_call a t
 unfolding call_of
 atom_kind a t = ap (λ (x : List ℕ). put_atom_call x t) (part_inside a 0 (length a) (omega arith) ∙ take_all (length a) a (omega arith))
 
-pub list_kind : (a : List ℕ) (n t : ℕ) → call_of a 1 0 n t ≡ begin_list_call t
+pub finish_kind : (a : List ℕ) (b : Bool) {k : ℕ} → k ≡ cond b 1 0 → call_at ((3 + k) ∷ 0 ∷ 0 ∷ 0 ∷ []) a 0 ≡ finish_call b
 unfolding call_of
-list_kind a n t = refl
+finish_kind a true e = rw e refl
+finish_kind a false e = rw e refl
 
-pub end_kind : (a : List ℕ) (n t : ℕ) → call_of a 2 0 n t ≡ end_list_call
-unfolding call_of
-end_kind a n t = refl
-
-pub finish_kind : (a : List ℕ) (n t : ℕ) (b : Bool) {k : ℕ} → k ≡ cond b 4 3 → call_of a k 0 n t ≡ finish_call b
-unfolding call_of
-finish_kind a n t true e = ap (λ (k : ℕ). call_of a k 0 n t) e
-finish_kind a n t false e = ap (λ (k : ℕ). call_of a k 0 n t) e
-
-pub finish_below : (b : Bool) {k : ℕ} → k ≡ cond b 4 3 → k ≤ 4
-finish_below true e = omega arith
-finish_below false e = omega arith
-
--- what a call promises that leaves d: its result, its values, and the record's words and the buffer at its end
-abbrev Left : Leaves → ℕ → List ℕ → List ℕ → List ℕ → Type 0
-Left d r values words buffer = Reports d.answer r values × ((words ≡ d.words) × (buffer ≡ d.buffer))
-
-module _ (c : Call) (s : Style) (ws buf : List ℕ) {k : KeptWriter} (e : writer_as k ≡ serializer_of ws) where
-  call_by_lem : {j : KeptWriter} → k ≡ j → call_by c s ws buf (writer_as j) ≡ call_on c s ws buf
-  unfolding call_on
-  call_by_lem d = ap (call_by c s ws buf) (sym (ap writer_as d) ∙ e)
-
-  pub call_unsound : k ≡ writing.Unsound → Left (call_on c s ws buf) 11 (0 ∷ 0 ∷ []) ws buf
-  unfolding call_by
-  call_unsound d =
-      subst (λ (x : Leaves). Left x 11 (0 ∷ 0 ∷ []) ws buf) (call_by_lem d)
-      (record { result = refl; values = refl }, (refl, refl))
-
-  pub call_made : {w r : Serializer} {n : ℕ} {answers values words bytes : List ℕ} → k ≡ writing.Is w → Made c s w buf r answers bytes
-      → Reports (word_answer (get_or answers 0 0)) n values → words ≡ serializer_words r → Left (call_on c s ws buf) n values words bytes
-  unfolding call_by
-  call_made {w = w} {n = n} {values = values} {words = words} {bytes = bytes} d p t z =
-      let a = (step s (length buf) w c).answer in
-      let e = ap (λ (l : List ℕ). word_answer (get_or l 0 0)) p.answers ∙ word_answer_lem a (small s (length buf) w c) in
-      subst (λ (x : Leaves). Left x n values words bytes) (call_by_lem d)
-      (reports_by (sym e) refl t, (z ∙ ap serializer_words p.serializer, p.buffer))
+pub call_made : (c : Call) (s : Style) (ws buf : List ℕ) {w r : Serializer} {answers words bytes : List ℕ} {told : Result (List ℕ) Numbered} → Some w ≡ serializer_of ws → Made c s w buf r answers bytes
+    → Tells (word_answer (get_or answers 0 0)) told → words ≡ serializer_words r → Makes (call_on c s ws buf) told words bytes
+unfolding call_by call_on
+call_made c s ws buf {w = w} {told = told} e p t z =
+    let a = (step s (length buf) w c).answer in
+    let g = ap (λ (l : List ℕ). word_answer (get_or l 0 0)) p.answers ∙ word_answer_lem a (small s (length buf) w c) in
+    rw (← e) (record { answer = subst (λ (x : Answer). Tells x told) g t; words = z ∙ ap serializer_words p.serializer; bytes = p.buffer })
 
 -- ---- a refused call leaves the words and the buffer: the record that it hands back is the one that it was given, and it has no bytes
 
@@ -248,8 +178,8 @@ unfolding call_on call_by
 refused_stays c s ws buf n {x} h = go (serializer_of ws) refl h
   where
     go : (o : Option Serializer) → serializer_of ws ≡ o → (call_by c s ws buf o).answer ≡ refused x → ((call_by c s ws buf o).words ≡ ws) × ((call_by c s ws buf o).buffer ≡ buf)
-    go none e r = (refl, refl)
-    go (some w) e r =
+    go None e r = (refl, refl)
+    go (Some w) e r =
         let t = written_nothing buf (verdict s (length buf) w c) r in
         (ap serializer_words t.0 ∙ writer_words ws n e, ap (pasted buf w.position) t.1 ∙ pasted_none buf w.position)
 

@@ -4,5 +4,4 @@ pub mod ItemExamples
 pub mod Passes
 pub mod Records
 pub mod Singly
-pub mod Kept
 pub mod SinglyExamples

@@ -1,13 +1,11 @@
--- What the private functions that go over a text's items do: they count the items, and then write the words of each.
+-- How far the private functions that go over a text's items have come: they count the items, and then write the words of each.
 -- Assumes nothing.
 use Rattle.std.specs.Prelude.{ℕ, suc, ◌+◌, ◌-◌, ◌*◌, ◌≤◌, ◌≡◌, true, List, length}
-use Rattle.sise_parser.specs.Reader.{reader, is_sound}
-use Rattle.sise_parser.specs.declared.reader.Phase.{Phase}
+use Rattle.sise_parser.specs.Reader.{is_sound}
 use Rattle.sise_parser.specs.declared.reader.Reader.{Reader}
 use Rattle.sise_parser.specs.declared.reader.ParsedItem.{ParsedItem}
 use Rattle.sise_serializer.specs.Bytes.{pasted}
 use Rattle.sise_c.specs.Items.{items_from, ending_from, items_of, ending_of, all_words}
-use Rattle.sise_c.specs.declared.items.Place.{Place}
 
 -- so many calls are enough where n items are read
 abbrev pub calls : List ℕ → ℕ → ℕ
@@ -34,23 +32,3 @@ pub record Fills (text w₀ : List ℕ) (r : Reader) (words : List ℕ) (n : ℕ
   pub same : length words ≡ length w₀
   pub room : 4 * (n + length (items_left text r n)) ≤ length w₀
   pub gives : pasted words (4 * n) (all_words (items_left text r n)) ≡ pasted w₀ 0 (all_words (items_of text))
-
--- the reader's record of a place, in a phase
-abbrev pub reader_at : Place → Phase → Reader
-reader_at p h = reader p.position h p.lists
-
-abbrev pub CanCount : List ℕ → Place → Type 0
-CanCount text p = (h : Phase) × Counts text (reader_at p h) p.items
-
--- counting goes on from p to q
-pub record CountsOn (text : List ℕ) (p q : Place) : Type 0 where
-  pub after : p.position ≤ q.position
-  pub on : (h : Phase) → Counts text (reader_at p h) p.items → Counts text (reader_at q h) q.items
-
-abbrev pub CanFill : List ℕ → List ℕ → Place → Type 0
-CanFill text words p = (w₀ : List ℕ) × (h : Phase) × Fills text w₀ (reader_at p h) words p.items
-
--- filling does, and the words become `now`
-pub record FillsOn (text words : List ℕ) (p q : Place) (now : List ℕ) : Type 0 where
-  pub after : p.position ≤ q.position
-  pub on : (w₀ : List ℕ) (h : Phase) → Fills text w₀ (reader_at p h) words p.items → Fills text w₀ (reader_at q h) now q.items

@@ -1,7 +1,6 @@
 -- The reader's and the writer's records as words that a caller keeps from call to call (document 01, "parser.rs: the reader" and "serializer.rs: the writer").
 -- Assumes nothing.
-use Rattle.std.specs.Prelude.{ℕ, zero, suc, Bool, true, false, cond, List, [], ◌∷◌, get_or}
-use Rattle.std.proofs.Math.Option.{Option, none, some, map}
+use Rattle.std.specs.Prelude.{ℕ, zero, suc, Bool, true, false, cond, List, [], ◌∷◌, get_or, Option, None, Some, option_map}
 use Rattle.sise_parser.specs.Reader.{reader}
 use Rattle.sise_parser.specs.declared.reader.Phase as readings
 use Rattle.sise_parser.specs.declared.reader.Phase.TheVariants as reading
@@ -14,10 +13,10 @@ use Rattle.sise_serializer.specs.declared.serializer.Serializer.{Serializer}
 
 -- a phase is its number in that order
 abbrev pub reader_phase : ℕ → Option readings.Phase
-reader_phase zero = some reading.Beginning
-reader_phase (suc zero) = some reading.Parsing
-reader_phase (suc (suc zero)) = some reading.Finishing
-reader_phase (suc (suc (suc n))) = none
+reader_phase zero = Some reading.Beginning
+reader_phase (suc zero) = Some reading.Parsing
+reader_phase (suc (suc zero)) = Some reading.Finishing
+reader_phase (suc (suc (suc n))) = None
 
 abbrev pub reader_phase_word : readings.Phase → ℕ
 reader_phase_word reading.Beginning = 0
@@ -26,7 +25,7 @@ reader_phase_word reading.Finishing = 2
 
 -- the record that three words mean, if the second is a phase
 unfoldable pub reader_of : List ℕ → Option Reader
-reader_of ws = map (λ (phase : readings.Phase). reader (get_or ws 0 0) phase (get_or ws 2 0)) (reader_phase (get_or ws 1 0))
+reader_of ws = option_map (λ (phase : readings.Phase). reader (get_or ws 0 0) phase (get_or ws 2 0)) (reader_phase (get_or ws 1 0))
 
 -- a record's words
 abbrev pub reader_words : Reader → List ℕ
@@ -36,11 +35,11 @@ reader_words r = r.position ∷ reader_phase_word r.phase ∷ r.lists ∷ []
 -- line length, and the added counts spaces, breaks, indents"
 
 abbrev pub writer_phase : ℕ → Option writings.Phase
-writer_phase zero = some writing.Beginning
-writer_phase (suc zero) = some writing.Writing
-writer_phase (suc (suc zero)) = some writing.Finished
-writer_phase (suc (suc (suc zero))) = some writing.Done
-writer_phase (suc (suc (suc (suc n)))) = none
+writer_phase zero = Some writing.Beginning
+writer_phase (suc zero) = Some writing.Writing
+writer_phase (suc (suc zero)) = Some writing.Finished
+writer_phase (suc (suc (suc zero))) = Some writing.Done
+writer_phase (suc (suc (suc (suc n)))) = None
 
 abbrev pub writer_phase_word : writings.Phase → ℕ
 writer_phase_word writing.Beginning = 0
@@ -50,18 +49,18 @@ writer_phase_word writing.Done = 3
 
 -- a flag is 0 or 1
 abbrev pub flag_of : ℕ → Option Bool
-flag_of zero = some false
-flag_of (suc zero) = some true
-flag_of (suc (suc n)) = none
+flag_of zero = Some false
+flag_of (suc zero) = Some true
+flag_of (suc (suc n)) = None
 
 abbrev pub flag_word : Bool → ℕ
 flag_word b = cond b 1 0
 
 -- the record of nine words, of which two are the phase and the flag
 abbrev pub serializer_in : List ℕ → Option writings.Phase → Option Bool → Option Serializer
-serializer_in ws none b = none
-serializer_in ws (some phase) none = none
-serializer_in ws (some phase) (some b) = some (record {
+serializer_in ws None b = None
+serializer_in ws (Some phase) None = None
+serializer_in ws (Some phase) (Some b) = Some (record {
   position = get_or ws 0 0;
   lists = get_or ws 2 0;
   broken = get_or ws 3 0;

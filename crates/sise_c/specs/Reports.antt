@@ -1,11 +1,13 @@
 -- What a call reports to a program in another language: its result, and words that the program lent (document 01, "Refusals"; document 02, 2.2).
 -- Assumes nothing.
-use Rattle.std.specs.Prelude.{ℕ, ◌≡◌, Bool, cond, List, [], ◌∷◌, length, get_or}
+use Rattle.std.specs.Prelude.{ℕ, ◌-◌, ◌≡◌, Bool, cond, List, [], ◌∷◌, length, get_or, set, replicate, Result, MatchResult}
+use Rattle.sise_parser.specs.Refusals.{Refusal}
 use Rattle.sise_serializer.specs.Serializer.{Style, fresh_serializer}
 use Rattle.sise_tree.specs.Answers.{Answer, answered, refused, number_of}
 use Rattle.sise_tree.specs.FindPath.{Lookup, found_number, found_values}
 use Rattle.sise_tree_writer.specs.SerializeTree.{Writes}
 use Rattle.sise_tree_writer.specs.Sizes.{Enquiry, adds, refuses, number_in, enquiry, commit_text}
+use Rattle.sise_c.specs.declared.report.Numbered.{Numbered}
 
 -- 17: "`check_atom` says no"
 abbrev pub checked : Bool → ℕ
@@ -16,10 +18,18 @@ abbrev pub values_of : Answer → List ℕ
 values_of (answered n) = n ∷ 0 ∷ []
 values_of (refused e) = e.place ∷ e.code ∷ []
 
+-- the n words of a refusal
+abbrev pub refusal_words : ℕ → Refusal → List ℕ
+refusal_words n e = set (set (replicate n 0) (n - 2) e.place) (n - 1) e.code
+
 -- the number returned, r, and the two lent words, which end as `now`, are those of the answer a
 pub record Reports (a : Answer) (r : ℕ) (now : List ℕ) : Type 0 where
   pub result : r ≡ number_of a
   pub values : now ≡ values_of a
+
+-- a result is reported as the answer a is
+abbrev pub Tells : Answer → Result (List ℕ) Numbered → Type 0
+Tells a r = MatchResult r (λ told. Reports a 0 told) (λ e. Reports a e.0 (0 ∷ 0 ∷ []))
 
 -- the same of a lookup that also answers the number of nodes looked at
 pub record ReportsFound (a : Lookup) (r : ℕ) (now : List ℕ) : Type 0 where

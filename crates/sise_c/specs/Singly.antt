@@ -1,7 +1,6 @@
 -- The reader's and the writer's calls one by one, over the words of a record (document 01, "Refusals": "Reader: 11, then 9 or 10, then the text", and so on).
 -- Assumes nothing.
-use Rattle.std.specs.Prelude.{ℕ, ◌-◌, ◌^◌, ◌≡◌, cond, List, [], ◌∷◌, leb, length, take}
-use Rattle.std.proofs.Math.Option.{Option, none, some}
+use Rattle.std.specs.Prelude.{ℕ, ◌-◌, ◌^◌, ◌≡◌, cond, List, [], ◌∷◌, leb, length, take, Option, None, Some, Result}
 use Rattle.sise_parser.specs.Reader as reader
 use Rattle.sise_parser.specs.Reader.{next_item, Ending, ended, not_ended, finish_reading}
 use Rattle.sise_parser.specs.declared.reader.Reader.{Reader}
@@ -13,6 +12,8 @@ use Rattle.sise_serializer.specs.declared.serializer.Serializer.{Serializer}
 use Rattle.sise_tree.specs.Answers.{Answer, answered, refused, refused_with}
 use Rattle.sise_c.specs.Items.{item_words}
 use Rattle.sise_c.specs.Records.{reader_of, reader_words, serializer_of, serializer_words}
+use Rattle.sise_c.specs.Reports.{Tells}
+use Rattle.sise_c.specs.declared.report.Numbered.{Numbered}
 
 -- ---- next_item
 
@@ -36,8 +37,8 @@ stands n = record { answer = n.answer; words = reader_words n.reader }
 
 -- words that mean no record are unsound, and stay as they are
 unfoldable pub next_by : List ℕ → List ℕ → Option Reader → Stands
-next_by text ws none = record { answer = reader.refused_with 11; words = ws }
-next_by text ws (some r) = stands (next_item text r)
+next_by text ws None = record { answer = reader.refused_with 11; words = ws }
+next_by text ws (Some r) = stands (next_item text r)
 
 unfoldable pub next_of : List ℕ → List ℕ → Stands
 next_of text ws = next_by text ws (reader_of ws)
@@ -54,8 +55,8 @@ ending_answer ended = answered 0
 ending_answer (not_ended e) = refused e
 
 unfoldable pub finish_by : List ℕ → Option Reader → Answer
-finish_by text none = refused_with 11
-finish_by text (some r) = ending_answer (finish_reading text r)
+finish_by text None = refused_with 11
+finish_by text (Some r) = ending_answer (finish_reading text r)
 
 unfoldable pub finish_of : List ℕ → List ℕ → Answer
 finish_of text ws = finish_by text (reader_of ws)
@@ -82,8 +83,14 @@ abbrev pub leaves : List ℕ → Serializer → Written → Leaves
 leaves buf w d = record { answer = put_answer d.answer; words = serializer_words d.serializer; buffer = pasted buf w.position d.bytes }
 
 unfoldable pub call_by : Call → Style → List ℕ → List ℕ → Option Serializer → Leaves
-call_by c s ws buf none = record { answer = refused_with 11; words = ws; buffer = buf }
-call_by c s ws buf (some w) = leaves buf w (step s (length buf) w c)
+call_by c s ws buf None = record { answer = refused_with 11; words = ws; buffer = buf }
+call_by c s ws buf (Some w) = leaves buf w (step s (length buf) w c)
 
 unfoldable pub call_on : Call → Style → List ℕ → List ℕ → Leaves
 call_on c s ws buf = call_by c s ws buf (serializer_of ws)
+
+-- a call that leaves d: its result, and how the record's words and the buffer end
+pub record Makes (d : Leaves) (r : Result (List ℕ) Numbered) (ws buf : List ℕ) : Type 0 where
+  pub answer : Tells d.answer r
+  pub words : ws ≡ d.words
+  pub bytes : buf ≡ d.buffer

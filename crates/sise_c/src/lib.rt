@@ -19,33 +19,29 @@ ghost use Rattle.sise_tree_writer.specs.Writing.{write_text};
 ghost use Rattle.sise_c.specs.Reports.{checked, Reports, ReportsFound, size_of, ReportsSize, TellsCommit, WritesCommit};
 ghost use Rattle.sise_c.specs.Items.{read_items};
 
-use items::{count_items, fill_items};
+use items::read_items;
 pub use reading::{sise_finish_reading, sise_next_item};
 use report::{
-    CallCount, Size, Values, report_found, report_indexed, report_measured, report_parsed,
-    report_put, report_refused, size_given,
+    CallCount, Size, Values, found_words, measured, number_words, report, size_given, written,
 };
-use sise_parser::Finished;
-use sise_serializer::write_calls;
-use sise_tree::{find_path, index_path, parse_text};
+use sise_serializer::{SerializerStyle, write_calls};
+use sise_tree::{TreeTable, parse_text};
 use sise_tree_writer::{commit_text, measure_text, write_text};
-use sise_util::check_atom;
+use sise_util::{check_atom, kind_number};
 pub use writing::{sise_begin_list, sise_end_list, sise_finish_writing, sise_put_atom};
 
 // Whether the bytes are an atom: 0 or 17.
 pub fn sise_check_atom(atom: &[u8]) -> u32
     ensures { result ≡ checked (is_atom atom.now) }
 {
-    let kind = check_atom(atom);
-    if kind.is_atom() { 0 } else { 17 }
+    if check_atom(atom).is_some() { 0 } else { 17 }
 }
 
 // Which atom the bytes are: 1 plain, with no `"` in it, 2 one whole string, 3 any other atom, and 0 no atom. It is the first word of such an atom in a table.
 pub fn sise_atom_kind(atom: &[u8]) -> u32
     ensures { result ≡ kind_number (kind_of atom.now) }
 {
-    let kind = check_atom(atom);
-    kind.number()
+    kind_number(check_atom(atom))
 }
 
 // Reads a whole text, which is one node, into the table. The first value is how many nodes it has.
@@ -53,14 +49,15 @@ pub fn sise_parse_tree(text: &[u8], table: &mut [u32], values: &mut Values) -> u
     ensures answer { Reports (parse_text text.now table.old).answer result values.new }
     ensures words { table.new ≡ (parse_text text.now table.old).words }
 {
-    report_parsed(parse_text(text, table), values)
+    report(parse_text(text, table).map(number_words), values)
 }
 
 // Finds the node at the end of the path. The first value is its index in the table.
 pub fn sise_index_path(table: &[u32], text: &[u8], path: &[u64], values: &mut Values) -> u32
     ensures { Reports (index_path table.now text.now path.now) result values.new }
 {
-    report_indexed(index_path(table, text, path), values)
+    let tree = TreeTable { table, text };
+    report(tree.index_path(path).map(number_words), values)
 }
 
 // Finds the node at the end of the path as the table has it, which is not tested: only the nodes on the way are read. The values are the node's index in the
@@ -68,7 +65,8 @@ pub fn sise_index_path(table: &[u32], text: &[u8], path: &[u64], values: &mut Va
 pub fn sise_find_path(table: &[u32], text: &[u8], path: &[u64], values: &mut Values) -> u32
     ensures { ReportsFound (find_path table.now text.now path.now) result values.new }
 {
-    report_found(find_path(table, text, path), values)
+    let tree = TreeTable { table, text };
+    report(tree.find_path(path).map(found_words), values)
 }
 
 // Writes the tree that the table holds over the text to the buffer's start, and a line break after it if wished. The first value is how many bytes are written.
@@ -85,17 +83,13 @@ pub fn sise_serialize_tree(
     ensures answer { Reports (size_of (write_text (style line_break.now indentation.now) buf.old text.now table.now break_line_at final_break)) result values.new }
     ensures bytes { buf.new ≡ (write_text (style line_break.now indentation.now) buf.old text.now table.now break_line_at final_break).buffer }
 {
-    let wrote = write_text(
+    let style = SerializerStyle {
         line_break,
         indentation,
-        buf,
-        text,
-        table,
-        break_line_at,
-        final_break,
-    );
-    let answer = wrote.answer;
-    report_put(answer, wrote.serializer.position, values)
+    };
+    let tree = TreeTable { table, text };
+    let wrote = write_text(style, buf, tree, break_line_at, final_break);
+    report(written(wrote), values)
 }
 
 // Size first: the bytes, line breaks and indentations that sise_serialize_tree would write with a buffer of `buf_len` bytes, or its refusal. Nothing is written
@@ -112,16 +106,13 @@ pub fn sise_measure_tree(
 ) -> u32
     ensures { ReportsSize buf_len (λ b. write_text (style line_break.now indentation.now) b text.now table.now break_line_at final_break) result size.new }
 {
-    let measured = measure_text(
+    let style = SerializerStyle {
         line_break,
         indentation,
-        buf_len,
-        text,
-        table,
-        break_line_at,
-        final_break,
-    );
-    report_measured(measured, size)
+    };
+    let tree = TreeTable { table, text };
+    let answer = measure_text(style, buf_len, tree, break_line_at, final_break);
+    report(measured(answer), size)
 }
 
 // Then the text: writes it as sise_serialize_tree does, if the size is still what sise_measure_tree answers with a buffer of this length, and else refuses with
@@ -140,18 +131,14 @@ pub fn sise_commit_tree(
     ensures answer { TellsCommit (style line_break.now indentation.now) buf.old text.now table.now break_line_at final_break size.now result values.new }
     ensures bytes { WritesCommit (style line_break.now indentation.now) buf.old text.now table.now break_line_at final_break size.now buf.new }
 {
-    let wrote = commit_text(
+    let style = SerializerStyle {
         line_break,
         indentation,
-        buf,
-        text,
-        table,
-        break_line_at,
-        final_break,
-        size_given(size),
-    );
-    let answer = wrote.answer;
-    report_put(answer, wrote.serializer.position, values)
+    };
+    let given = Ok(size_given(size));
+    let tree = TreeTable { table, text };
+    let wrote = commit_text(style, buf, tree, break_line_at, final_break, given);
+    report(written(wrote), values)
 }
 
 // Reads the items of a whole text into words, four an item, as sise_write_calls takes them. The first value is how many items there are.
@@ -159,18 +146,7 @@ pub fn sise_read_items(text: &[u8], words: &mut [u64], values: &mut Values) -> u
     ensures answer { Reports (read_items text.now words.old).answer result values.new }
     ensures words { words.new ≡ (read_items text.now words.old).words }
 {
-    let counted = count_items(text);
-    let ending = counted.ending;
-    if let Finished::Refused(error) = ending {
-        return report_refused(error, values);
-    }
-    if counted.items > words.len() / 4 {
-        *values = [0, 0];
-        return 14;
-    }
-    fill_items(text, words);
-    *values = [counted.items as u64, 0];
-    0
+    report(read_items(text, words).map(number_words), values)
 }
 
 // Runs a list of writer calls, as write_calls of sise_serializer does, and returns how many bytes of the buffer are written. `ran` is how many calls ran.
@@ -186,7 +162,11 @@ pub fn sise_write_calls(
     ensures writes { WritesCalls (style line_break.now indentation.now) words.now atoms.now buf.old answers.old result buf.new answers.new }
     ensures ran { ran.new ≡ length (calls_of words.now atoms.now (length answers.old)) ∷ [] }
 {
-    let all = write_calls(words, atoms, line_break, indentation, buf, answers);
+    let style = SerializerStyle {
+        line_break,
+        indentation,
+    };
+    let all = write_calls(words, atoms, style, buf, answers);
     *ran = [all.calls as u64];
     all.serializer.position as u64
 }

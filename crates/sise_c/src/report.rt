@@ -1,15 +1,13 @@
 // How an answer is reported: its number as the result, its values in the words that the caller lent.
-ghost use Rattle.std.specs.Prelude.{◌≡◌};
-ghost use Rattle.sise_parser.specs.Refusals.{refusal_of};
-ghost use Rattle.sise_tree.specs.Answers.{refused, indexed_as, parsed_as};
-ghost use Rattle.sise_tree_writer.specs.Answers.{put_as};
+ghost use Rattle.std.specs.Prelude.{◌≡◌, ◌≤◌, [], ◌∷◌, Ok, MatchResult};
+ghost use Rattle.sise_parser.specs.Refusals.{refusal};
+ghost use Rattle.sise_tree_writer.specs.Answers.{put_as, error_number};
 ghost use Rattle.sise_tree_writer.specs.Sizes.{measured_as};
-ghost use Rattle.sise_tree.specs.FindPath.{found_as};
-ghost use Rattle.sise_c.specs.Reports.{Reports, ReportsFound, size_or, ReportsEnquiry, size_given};
+ghost use Rattle.sise_c.specs.Reports.{refusal_words, Tells, size_or, ReportsEnquiry, size_given};
 
-use sise_parser::ParseError;
-use sise_tree::{Found, Indexed, ParsedTree};
-use sise_tree_writer::{Measured, PutTree};
+use sise_parser::Refusal;
+use sise_tree::Found;
+use sise_tree_writer::{TreeSize, TreeWrote, WriteTreeError};
 
 // What a call answers beside its result.
 pub type Values = [u64; 2];
@@ -20,85 +18,90 @@ pub type Size = [u64; 3];
 // How many calls of a list ran.
 pub type CallCount = [u64; 1];
 
-pub(crate) fn report_indexed(answer: Indexed, values: &mut Values) -> u32
-    ensures { Reports (indexed_as answer) result values.new }
+// The words are those of what is answered. The last two of a refusal are its place and code point, and others are 0.
+pub(crate) fn report<const N: usize, E: Refusal>(
+    answer: Result<[u64; N], E>,
+    words: &mut [u64; N],
+) -> u32
+    requires { 2 ≤ N }
+    ensures { MatchResult answer (λ told. (result ≡ 0) × (words.new ≡ told)) (λ e. (result ≡ (E.meaning e).number) × (words.new ≡ refusal_words N (E.meaning e))) }
 {
-    if let Indexed::Node(index) = answer {
-        *values = [index as u64, 0];
-        return 0;
+    match answer {
+        Ok(told) => {
+            *words = told;
+            0
+        }
+        Err(error) => {
+            words.fill(0);
+            words[N - 2] = error.place() as u64;
+            words[N - 1] = u64::from(error.code());
+            error.number()
+        }
     }
-    *values = [0, 0];
-    answer.number()
 }
 
-pub(crate) fn report_found(answer: Found, values: &mut Values) -> u32
-    ensures { ReportsFound (found_as answer) result values.new }
+pub(crate) fn number_words(number: usize) -> Values
+    ensures { result ≡ number ∷ 0 ∷ [] }
 {
-    if let Found::Node { index, seen } = answer {
-        *values = [index as u64, seen as u64];
-        return 0;
-    }
-    *values = [0, 0];
-    answer.number()
+    [number as u64, 0]
 }
 
-pub(crate) fn report_parsed(answer: ParsedTree, values: &mut Values) -> u32
-    ensures { Reports (parsed_as answer) result values.new }
+pub(crate) fn found_words(found: Found) -> Values
+    ensures { result ≡ found.index ∷ found.seen ∷ [] }
 {
-    if let ParsedTree::Nodes(nodes) = answer {
-        *values = [nodes as u64, 0];
-        return 0;
-    }
-    let place = answer.place();
-    let code = answer.code();
-    *values = [place as u64, code as u64];
-    answer.number()
+    [found.index as u64, found.seen as u64]
 }
 
-pub(crate) fn report_measured(answer: Measured, size: &mut Size) -> u32
-    ensures { ReportsEnquiry (measured_as answer) result size.new }
-{
-    if let Measured::Size {
-        bytes,
-        breaks,
-        indents,
-    } = answer
-    {
-        *size = [bytes as u64, breaks as u64, indents as u64];
-        return 0;
+// A refusal that has no place, by its number.
+#[derive(Clone, Copy, Debug, PartialEq, Eq)]
+pub(crate) struct Numbered(pub(crate) u32);
+
+impl Refusal for Numbered {
+    ghost meaning = { λ e. refusal e.0 0 0 };
+
+    fn number(self) -> u32 {
+        self.0
     }
-    *size = [0, 0, 0];
-    answer.number()
+
+    fn place(self) -> usize {
+        0
+    }
+
+    fn code(self) -> u32 {
+        0
+    }
 }
 
-// The answer that three words hand over: a size.
-pub(crate) fn size_given(size: &Size) -> Measured
-    ensures { measured_as result ≡ size_given size.now }
+impl From<WriteTreeError> for Numbered {
+    ghost from_gives = { λ error e. e.0 ≡ error_number error };
+
+    fn from(error: WriteTreeError) -> Numbered {
+        Numbered(error.number())
+    }
+}
+
+// A tree that is written tells how far from the buffer's start the text goes.
+pub(crate) fn written(wrote: TreeWrote) -> Result<Values, Numbered>
+    ensures { Tells (size_or wrote.serializer.position (put_as wrote.answer)) result }
 {
-    Measured::Size {
+    wrote.answer?;
+    Ok(number_words(wrote.serializer.position))
+}
+
+pub(crate) fn measured(answer: Result<TreeSize, WriteTreeError>) -> Result<Size, Numbered>
+    ensures { MatchResult result (ReportsEnquiry (measured_as answer) 0) (λ e. ReportsEnquiry (measured_as answer) e.0 (0 ∷ 0 ∷ 0 ∷ [])) }
+{
+    let size = answer?;
+    Ok([size.bytes as u64, size.breaks as u64, size.indents as u64])
+}
+
+// The size that three words hand over.
+pub(crate) fn size_given(size: &Size) -> TreeSize
+    ensures { measured_as (Ok result) ≡ size_given size.now }
+{
+    TreeSize {
         bytes: size[0] as usize,
         breaks: size[1] as usize,
         indents: size[2] as usize,
     }
-}
-
-// A tree was written up to `position`, or refused.
-pub(crate) fn report_put(answer: PutTree, position: usize, values: &mut Values) -> u32
-    ensures { Reports (size_or position (put_as answer)) result values.new }
-{
-    if let PutTree::At(_) = answer {
-        *values = [position as u64, 0];
-        return 0;
-    }
-    *values = [0, 0];
-    answer.number()
-}
-
-pub(crate) fn report_refused(error: ParseError, values: &mut Values) -> u32
-    ensures { Reports (refused (refusal_of error)) result values.new }
-{
-    let place = error.place();
-    let code = error.code();
-    *values = [place as u64, code as u64];
-    error.number()
 }

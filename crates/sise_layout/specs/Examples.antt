@@ -1,7 +1,7 @@
 -- Document 01's worked writing with both thresholds, by computation: text, offsets and counts; so the premises of demand 3 are met. And texts with a broken
 -- list in another.
 -- Assumes nothing.
-use Rattle.std.specs.Prelude.{ℕ, ◌≡◌, refl, true, false, List, [], ◌∷◌, map, replicate}
+use Rattle.std.specs.Prelude.{ℕ, ◌≡◌, refl, true, false, List, [], ◌∷◌, map, replicate, Ok}
 use Rattle.std.proofs.Common.{lit<}
 use Rattle.sise_util.specs.Chars.{within, one_of, is_atom_chr, marks}
 use Rattle.sise_util.specs.Classes.{class_of}
@@ -9,7 +9,6 @@ use Rattle.sise_util.specs.Atom.{is_atom, outside, inside, escaped}
 use Rattle.sise_serializer.specs.Bytes.{pasted}
 use Rattle.sise_serializer.specs.Examples.{house}
 use Rattle.sise_serializer.specs.Serializer.{accepted, fresh_serializer, is_sound, place, first_atom, first_list, laid, inner_as, inner, phase_after, close_as, close, last, put_in, put_atom, begin_in, begin_list, end_in, end_list, finish_in, finish_writing}
-use Rattle.sise_serializer.specs.declared.serializer.Put.TheVariants.{At}
 use Rattle.sise_serializer.specs.declared.serializer.Phase.{Phase}
 use Rattle.sise_serializer.specs.declared.serializer.Phase.TheVariants.{Done}
 use Rattle.sise_serializer.specs.declared.serializer.Serializer.{Serializer}
@@ -131,5 +130,5 @@ end_after = (last house alone_after false).after
 one_by_one : MadeWriting house fresh_serializer (0 ∷ []) (put_atom_call (97 ∷ []) 0 ∷ finish_call false ∷ []) end_after (97 ∷ []) (accepted 0 ∷ accepted 1 ∷ [])
 unfolding alone_after end_after house step pasted fresh_serializer is_sound place first_atom last put_in put_atom finish_in finish_writing is_atom outside inside escaped class_of is_atom_chr one_of within
 one_by_one =
-    made.later {r = record { serializer = alone_after; answer = At 0 }} (record { serializer = refl; answer = refl; buffer = refl })
-    (made.here {r = record { serializer = end_after; answer = At 1 }} (record { serializer = refl; answer = refl; buffer = refl }) refl none)
+    made.later {r = record { serializer = alone_after; answer = Ok 0 }} (record { serializer = refl; answer = refl; buffer = refl })
+    (made.here {r = record { serializer = end_after; answer = Ok 1 }} (record { serializer = refl; answer = refl; buffer = refl }) refl none)

@@ -1,7 +1,7 @@
 -- The same steps where the code knows a byte by its value: each says which class it has.
 -- Assumes nothing.
 use mathlib.Core.Path.{◌≡◌, refl, sym, ap, ◌∙◌}
-use mathlib.Core.Bool.{Bool, true, false}
+use mathlib.Core.Bool.{Bool, true, false, false≢true}
 use mathlib.Core.Logic.{◌⊎◌, inl, inr, ⊎_elim}
 use mathlib.Core.List.{List, [], ◌∷◌}
 use Prim.Native.Nat.{ℕ, ◌+◌, ◌-◌, ◌<◌}
@@ -10,10 +10,10 @@ use lib.ListN.{length, drop, get_or}
 use borrow.Author.Tests.{eq-eqb, ne_eqb, eqb-true, eqb-false}
 use types.Run.{OneOf}
 use Rattle.sise_util.specs.Chars.{one_of, is_atom_chr}
-use Rattle.sise_util.specs.Classes.{class_of, class_number}
+use Rattle.sise_util.specs.Classes.{Class, space, quote, tab, atom_chr, line_end, backslash, other, semicolon, left, right, printable, class_of, class_number}
 use Rattle.sise_util.proofs.ClassLaws.{space_number, tab_number, line_end_number, semicolon_number, left_number, right_number, quote_number, atom_number}
 use Rattle.sise_parser.specs.Lexer.{found, opening, closing, atom, wrong, between, comment, plain, string}
-use Rattle.sise_parser.specs.Plain.{skip_blanks, atom_run}
+use Rattle.sise_parser.specs.Plain.{is_blank, skip_blanks, atom_run}
 use Rattle.sise_parser.specs.Meaning.{Reads}
 use Rattle.sise_parser.proofs.Steps as steps
 
@@ -90,24 +90,40 @@ module _ (text : List ℕ) (p : ℕ) (h : p < length text) where
   -- no byte that begins a token or is a blank
   pub between_wrong : (OneOf (10 ∷ 32 ∷ []) b → ⊥) → (OneOf (9 ∷ 13 ∷ []) b → ⊥) → (b ≡ 40 → ⊥) → (b ≡ 41 → ⊥) → (b ≡ 59 → ⊥)
       → is_atom_chr b ≡ false → (b ≡ 34 → ⊥) → between (drop p text) p ≡ wrong 1 (drop p text) p
-  between_wrong blank tabs left right semi n quote =
+  between_wrong blank tabs l r semi n q =
       steps.between_wrong reads (
-        ((((tt, no_blank blank tabs), hasn't 7 (semicolon_number b) (ne_eqb b 59 semi)), hasn't 8 (left_number b) (ne_eqb b 40 left)), hasn't 9 (right_number b) (ne_eqb b 41 right)),
+        ((((tt, no_blank blank tabs), hasn't 7 (semicolon_number b) (ne_eqb b 59 semi)), hasn't 8 (left_number b) (ne_eqb b 40 l)), hasn't 9 (right_number b) (ne_eqb b 41 r)),
         no_start,
       )
     where
       no_start : OneOf (1 ∷ 3 ∷ []) k → ⊥
-      no_start = ⊎_elim (hasn't 1 (quote_number b) (ne_eqb b 34 quote)) (hasn't 3 (atom_number b) n)
+      no_start = ⊎_elim (hasn't 1 (quote_number b) (ne_eqb b 34 q)) (hasn't 3 (atom_number b) n)
 
   -- over blanks
-  pub blanks_space : OneOf (10 ∷ 32 ∷ []) b → skip_blanks (drop p text) p ≡ skip_blanks (drop (p + 1) text) (p + 1)
-  blanks_space n = steps.blanks_on reads (space_blank n)
+  pub blanks_on : is_blank (class_of b) ≡ true → skip_blanks (drop p text) p ≡ skip_blanks (drop (p + 1) text) (p + 1)
+  unfolding skip_blanks
+  blanks_on y = ap (λ (m : List ℕ). skip_blanks m p) (steps.here reads) ∙ rw (y, skip_blanks)
 
-  pub blanks_tab : OneOf (9 ∷ 13 ∷ []) b → skip_blanks (drop p text) p ≡ skip_blanks (drop (p + 1) text) (p + 1)
-  blanks_tab n = steps.blanks_on reads (tab_blank n)
+  pub blanks_stop : is_blank (class_of b) ≡ false → skip_blanks (drop p text) p ≡ p
+  unfolding skip_blanks
+  blanks_stop n = ap (λ (m : List ℕ). skip_blanks m p) (steps.here reads) ∙ rw (n, skip_blanks)
 
-  pub blanks_stop : (OneOf (10 ∷ 32 ∷ []) b → ⊥) → (OneOf (9 ∷ 13 ∷ []) b → ⊥) → skip_blanks (drop p text) p ≡ p
-  blanks_stop blank tabs = steps.blanks_stop reads (tt, no_blank blank tabs)
+  pub between_on : is_blank (class_of b) ≡ true → between (drop p text) p ≡ between (drop (p + 1) text) (p + 1)
+  unfolding between
+  between_on y = ap (λ (m : List ℕ). between m p) (steps.here reads) ∙ go (class_of b) refl y
+    where
+      go : (c : Class) → class_of b ≡ c → is_blank c ≡ true → between (b ∷ drop (p + 1) text) p ≡ between (drop (p + 1) text) (p + 1)
+      go space e y = rw (e, between)
+      go tab e y = rw (e, between)
+      go line_end e y = rw (e, between)
+      go quote e y = absurd (false≢true y)
+      go atom_chr e y = absurd (false≢true y)
+      go backslash e y = absurd (false≢true y)
+      go other e y = absurd (false≢true y)
+      go semicolon e y = absurd (false≢true y)
+      go left e y = absurd (false≢true y)
+      go right e y = absurd (false≢true y)
+      go printable e y = absurd (false≢true y)
 
   -- in a run of atom characters
   pub run_on : is_atom_chr b ≡ true → atom_run (drop p text) p ≡ atom_run (drop (p + 1) text) (p + 1)

@@ -2,20 +2,16 @@
 -- Assumes nothing.
 use mathlib.Core.Path.{◌≡◌, refl, sym, ap, ◌∙◌}
 use mathlib.Core.Bool.{Bool, true, false, ◌&&◌, cond}
-use mathlib.Core.List.{List, [], ◌∷◌}
+use mathlib.Core.List.{List}
 use Prim.Native.Nat.{ℕ, ◌+◌, ◌-◌, ◌≤◌, ◌<◌}
 use native.Mathlib.Omega.{arith}
 use lib.Dec.{leb}
 use lib.ListN.{length, get_or}
 use borrow.Author.Tests.{leb-true, le-leb, ne_eqb}
-use types.Run.{OneOf}
-use denote.Enum.Declared.{tag_of}
-use mathlib.Core.Logic.{⊎_elim}
 use Rattle.sise_util.proofs.Ranges.{and_first, and_second}
 use Rattle.sise_parser.specs.Refusals.{Refusal, refusal}
 use Rattle.sise_parser.specs.Lexer.{Lexed, bad}
 use Rattle.sise_parser.specs.Reader.{reader, lists_fit, is_sound, item, refused, next, refused_with, token_at, in_beginning, in_parsing, next_in, next_item, not_ended, ends_at, finish_in, finish_reading}
-use Rattle.sise_parser.specs.contracts.reader.Phase as phases
 use Rattle.sise_parser.specs.declared.reader.Phase.{Phase}
 use Rattle.sise_parser.specs.declared.reader.Phase.TheVariants.{Beginning, Parsing, Finishing}
 use Rattle.sise_parser.specs.declared.reader.Reader.{Reader}
@@ -46,11 +42,11 @@ parsing_lists n r h e =
     let o : r.lists ≤ r.position = s.opened in
     (leb-true 1 r.lists (ap (λ (f : Phase). lists_fit f r.lists) (sym e) ∙ s.fit), omega arith)
 
--- which phase it is by a match's keys
-pub is_parsing : (f : Phase) → OneOf (0 ∷ 1 ∷ []) (tag_of phases.the_type f) → OneOf (1 ∷ 2 ∷ []) (tag_of phases.the_type f) → f ≡ Parsing
-is_parsing Beginning a b = absurd (⊎_elim (λ (e : 0 ≡ 1). omega arith) (λ (e : 0 ≡ 2). omega arith) b)
+-- the third of the phases
+pub is_parsing : (f : Phase) → (f ≡ Finishing → ⊥) → (f ≡ Beginning → ⊥) → f ≡ Parsing
+is_parsing Beginning a b = absurd (b refl)
 is_parsing Parsing a b = refl
-is_parsing Finishing a b = absurd (⊎_elim (λ (e : 2 ≡ 0). omega arith) (λ (e : 2 ≡ 1). omega arith) a)
+is_parsing Finishing a b = absurd (a refl)
 
 -- next_item
 module _ (text : List ℕ) (r : Reader) where
@@ -79,15 +75,15 @@ module _ (text : List ℕ) (r : Reader) where
     next_parsing e d = ap (in_parsing r.lists) d ∙ in_phase Parsing e
 
     -- a refused token, before finishing
-    pub next_bad : OneOf (0 ∷ 1 ∷ []) (tag_of phases.the_type r.phase) → {e : Refusal} {q : ℕ} → bad e q ≡ token_at text r
+    pub next_bad : (r.phase ≡ Finishing → ⊥) → {e : Refusal} {q : ℕ} → bad e q ≡ token_at text r
         → next (reader q r.phase r.lists) (refused e) ≡ next_item text r
     unfolding in_beginning in_parsing
-    next_bad k {e} {q} d = go r.phase refl k
+    next_bad k {e} {q} d = go r.phase refl
       where
-        go : (f : Phase) → r.phase ≡ f → OneOf (0 ∷ 1 ∷ []) (tag_of phases.the_type f) → next (reader q r.phase r.lists) (refused e) ≡ next_item text r
-        go Beginning p k = ap (λ (g : Phase). next (reader q g r.lists) (refused e)) p ∙ next_beginning p d
-        go Parsing p k = ap (λ (g : Phase). next (reader q g r.lists) (refused e)) p ∙ next_parsing p d
-        go Finishing p k = absurd (⊎_elim (λ (e : 2 ≡ 0). omega arith) (λ (e : 2 ≡ 1). omega arith) k)
+        go : (f : Phase) → r.phase ≡ f → next (reader q r.phase r.lists) (refused e) ≡ next_item text r
+        go Beginning p = ap (λ (g : Phase). next (reader q g r.lists) (refused e)) p ∙ next_beginning p d
+        go Parsing p = ap (λ (g : Phase). next (reader q g r.lists) (refused e)) p ∙ next_parsing p d
+        go Finishing p = absurd (k p)
 
 -- a bracket right at the position of a record that is sound while parsing
 module _ (text : List ℕ) (r : Reader) (e : r.phase ≡ Parsing) (w : r.position < length text) (o : r.lists ≤ r.position) (k : 1 < r.lists) where
@@ -120,14 +116,14 @@ module _ (text : List ℕ) (r : Reader) where
     unfolding finish_reading
     sound_finish = rw (h, finish_reading)
 
-    pub finish_early : OneOf (0 ∷ 1 ∷ []) (tag_of phases.the_type r.phase) → not_ended (refusal 10 0 0) ≡ finish_reading text r
+    pub finish_early : (r.phase ≡ Finishing → ⊥) → not_ended (refusal 10 0 0) ≡ finish_reading text r
     unfolding finish_in
-    finish_early k = go r.phase refl k ∙ sym sound_finish
+    finish_early k = go r.phase refl ∙ sym sound_finish
       where
-        go : (f : Phase) → r.phase ≡ f → OneOf (0 ∷ 1 ∷ []) (tag_of phases.the_type f) → not_ended (refusal 10 0 0) ≡ finish_in r.phase text r
-        go Beginning p k = sym (ap (λ (g : Phase). finish_in g text r) p)
-        go Parsing p k = sym (ap (λ (g : Phase). finish_in g text r) p)
-        go Finishing p k = absurd (⊎_elim (λ (e : 2 ≡ 0). omega arith) (λ (e : 2 ≡ 1). omega arith) k)
+        go : (f : Phase) → r.phase ≡ f → not_ended (refusal 10 0 0) ≡ finish_in r.phase text r
+        go Beginning p = sym (ap (λ (g : Phase). finish_in g text r) p)
+        go Parsing p = sym (ap (λ (g : Phase). finish_in g text r) p)
+        go Finishing p = absurd (k p)
 
     pub finish_token : r.phase ≡ Finishing → {x : Lexed} → x ≡ token_at text r → ends_at x ≡ finish_reading text r
     unfolding finish_in

@@ -11,12 +11,10 @@ use Rattle.sise_parser.specs.declared.parser.Parser.{Parser}
 use Rattle.sise_parser.specs.declared.parser.Parsed as code
 use Rattle.sise_parser.specs.declared.error.ParseError.{ParseError}
 use Rattle.sise_parser.specs.declared.error.ParseError.TheVariants.{IllegalChr, IllegalChrInString, IllegalChrInComment, UnfinishedString, UnexpectedEof, UnexpectedRightParen, ExpectedEof, IllFormedChr, ParsingFinished, ParsingNotFinished, UnsoundRecord}
-use Rattle.sise_parser.specs.declared.reader.Answer.{Answer}
-use Rattle.sise_parser.specs.declared.reader.Answer.TheVariants.{Item, Refused}
+use Rattle.std.specs.Prelude.{Result, Ok, Err}
+use Rattle.sise_parser.specs.declared.reader.ParsedItem.{ParsedItem}
 use Rattle.sise_parser.specs.declared.reader.Next.{Next}
 use Rattle.sise_parser.specs.declared.reader.Reader.{Reader}
-use Rattle.sise_parser.specs.declared.reader.Finished.{Finished}
-use Rattle.sise_parser.specs.declared.reader.Finished.TheVariants.{Done}
 
 -- the error that a refusal was
 abbrev error_of : Refusal → ParseError
@@ -45,21 +43,21 @@ error_back ParsingFinished = refl
 error_back ParsingNotFinished = refl
 error_back UnsoundRecord = refl
 
-abbrev answer_of : reader.Answer → Answer
-answer_of (reader.item i) = Item i
-answer_of (reader.refused e) = Refused (error_of e)
+abbrev answer_of : reader.Answer → Result ParsedItem ParseError
+answer_of (reader.item i) = Ok i
+answer_of (reader.refused e) = Err (error_of e)
 
-answer_back : (a : Answer) → answer_of (answer_as a) ≡ a
-answer_back (Item i) = refl
-answer_back (Refused e) = ap Refused (error_back e)
+answer_back : (a : Result ParsedItem ParseError) → answer_of (answer_as a) ≡ a
+answer_back (Ok i) = refl
+answer_back (Err e) = ap Err (error_back e)
 
 abbrev next_of : reader.Next → Next
 next_of n = record { reader = n.reader; answer = answer_of n.answer }
 
 next_back : (n : Next) → next_of (next_as n) ≡ n
-next_back n = ap (λ (a : Answer). made n.reader a) (answer_back n.answer)
+next_back n = ap (λ (a : Result ParsedItem ParseError). made n.reader a) (answer_back n.answer)
   where
-    made : Reader → Answer → Next
+    made : Reader → Result ParsedItem ParseError → Next
     made r a = record { reader = r; answer = a }
 
 -- the same of the thin reader's
@@ -67,18 +65,18 @@ abbrev parsed_from : Parsed → code.Parsed
 parsed_from p = record { parser = p.parser; answer = answer_of p.answer }
 
 parsed_back : (p : code.Parsed) → parsed_from (parsed_as p) ≡ p
-parsed_back p = ap (λ (a : Answer). made p.parser a) (answer_back p.answer)
+parsed_back p = ap (λ (a : Result ParsedItem ParseError). made p.parser a) (answer_back p.answer)
   where
-    made : Parser → Answer → code.Parsed
+    made : Parser → Result ParsedItem ParseError → code.Parsed
     made r a = record { parser = r; answer = a }
 
-abbrev finished_of : reader.Ending → Finished
-finished_of reader.ended = Done
-finished_of (reader.not_ended e) = Finished.Refused (error_of e)
+abbrev finished_of : reader.Ending → Result (Unit {0}) ParseError
+finished_of reader.ended = Ok tt
+finished_of (reader.not_ended e) = Err (error_of e)
 
-finished_back : (f : Finished) → finished_of (finished_as f) ≡ f
-finished_back Done = refl
-finished_back (Finished.Refused e) = ap Finished.Refused (error_back e)
+finished_back : (f : Result (Unit {0}) ParseError) → finished_of (finished_as f) ≡ f
+finished_back (Ok u) = refl
+finished_back (Err e) = ap Err (error_back e)
 
 pub refusal_lossless : (e f : ParseError) → refusal_of e ≡ refusal_of f → e ≡ f
 refusal_lossless e f d = sym (error_back e) ∙ ap error_of d ∙ error_back f
@@ -89,5 +87,5 @@ next_lossless m n d = sym (next_back m) ∙ ap next_of d ∙ next_back n
 pub parsed_lossless : (p q : code.Parsed) → parsed_as p ≡ parsed_as q → p ≡ q
 parsed_lossless p q d = sym (parsed_back p) ∙ ap parsed_from d ∙ parsed_back q
 
-pub finished_lossless : (f g : Finished) → finished_as f ≡ finished_as g → f ≡ g
+pub finished_lossless : (f g : Result (Unit {0}) ParseError) → finished_as f ≡ finished_as g → f ≡ g
 finished_lossless f g d = sym (finished_back f) ∙ ap finished_of d ∙ finished_back g

@@ -7,7 +7,8 @@ use native.Mathlib.Omega.{arith}
 use lib.ListN.{length, drop, length-drop}
 use Rattle.sise_util.specs.Utf8.{character}
 use Rattle.sise_util.specs.declared.utf8.Character.{Character}
-use Rattle.sise_util.specs.declared.utf8.Character.TheVariants.{Well, Ill}
+use Rattle.sise_util.specs.declared.utf8.IllFormed.{IllFormed}
+use Rattle.std.specs.Prelude.{Result, Ok, Err}
 use Rattle.sise_util.proofs.Utf8Laws.{size_fits, broken_subpart}
 use Rattle.sise_parser.specs.Lexer.{Token, eof, opening, closing, atom, Lexed, found, bad, wrong, between}
 use Rattle.sise_parser.proofs.Induction.{InAtom, Cases, in_between}
@@ -35,9 +36,9 @@ wrong_placed m b l p n e = go (character (b ∷ l)) refl
     fits : (k : ℕ) → (1 ≤ k) × (k ≤ suc (length l)) → (p ≤ p + k) × (p + k ≤ n)
     fits k h = omega arith
 
-    go : (c : Character) → character (b ∷ l) ≡ c → Placed p n (wrong m (b ∷ l) p)
-    go (Well c k) d = rw (d, wrong) (fits k (size_fits (b ∷ l) d))
-    go (Ill k) d = rw (d, wrong) (let s = broken_subpart b l d in fits k (s.some, s.inside))
+    go : (c : Result Character IllFormed) → character (b ∷ l) ≡ c → Placed p n (wrong m (b ∷ l) p)
+    go (Ok c) d = rw (d, wrong) (fits c.len (size_fits (b ∷ l) d))
+    go (Err i) d = rw (d, wrong) (let s = broken_subpart b l d in fits i.len (s.some, s.inside))
 
 abbrev R : List ℕ → ℕ → Lexed → Type 0
 R l p x = (n : ℕ) → p + length l ≡ n → Placed p n x

@@ -237,25 +237,3 @@ module _ {text : List ℕ} {p k : ℕ} (r : Reads text p k) where
       go left e m = rw (e, escape)
       go right e m = rw (e, escape)
       go printable e m = rw (e, escape)
-
-  -- over blanks
-  pub blanks_on : OneOf (0 ∷ 2 ∷ 4 ∷ []) k → skip_blanks (drop p text) p ≡ skip_blanks l (p + 1)
-  unfolding skip_blanks
-  blanks_on n = ap (λ (m : List ℕ). skip_blanks m p) here ∙ ⊎_elim (λ e. rw (is 0 e, skip_blanks)) (⊎_elim (λ e. rw (is 2 e, skip_blanks)) (λ e. rw (is 4 e, skip_blanks))) n
-
-  pub blanks_stop : Rest ((0 ∷ 2 ∷ 4 ∷ []) ∷ []) k → skip_blanks (drop p text) p ≡ p
-  unfolding skip_blanks class_number
-  blanks_stop n = ap (λ (m : List ℕ). skip_blanks m p) here ∙ go (class_of b) refl r.class
-    where
-      go : (c : Class) → class_of b ≡ c → k ≡ class_number c → skip_blanks (b ∷ l) p ≡ p
-      go space e m = absurd (n.1 (inl m))
-      go quote e m = rw (e, skip_blanks)
-      go tab e m = absurd (n.1 (inr (inl m)))
-      go atom_chr e m = rw (e, skip_blanks)
-      go line_end e m = absurd (n.1 (inr (inr m)))
-      go backslash e m = rw (e, skip_blanks)
-      go other e m = rw (e, skip_blanks)
-      go semicolon e m = rw (e, skip_blanks)
-      go left e m = rw (e, skip_blanks)
-      go right e m = rw (e, skip_blanks)
-      go printable e m = rw (e, skip_blanks)

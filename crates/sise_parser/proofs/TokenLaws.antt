@@ -14,7 +14,8 @@ use Rattle.sise_util.specs.Classes.{Class, left, right, class_of, class_number}
 use Rattle.sise_util.specs.Atom.{Atom, outside, is_atom}
 use Rattle.sise_util.specs.Utf8.{Subpart, character}
 use Rattle.sise_util.specs.declared.utf8.Character.{Character}
-use Rattle.sise_util.specs.declared.utf8.Character.TheVariants.{Well, Ill}
+use Rattle.sise_util.specs.declared.utf8.IllFormed.{IllFormed}
+use Rattle.std.specs.Prelude.{Result, Ok, Err}
 use Rattle.sise_util.proofs.AtomLaws.{atom_test}
 use Rattle.sise_util.proofs.ClassLaws.{left_number, right_number}
 use Rattle.sise_util.proofs.Utf8Laws.{ill_formed_lem, broken_subpart}
@@ -47,10 +48,10 @@ module _ {text : List ℕ} {p b : ℕ} {l : List ℕ} (i : Ends text p (b ∷ l)
   unfolding wrong
   wrong_says n h k = go (character (b ∷ l)) refl
     where
-      go : (c : Character) → character (b ∷ l) ≡ c → Says text (wrong n (b ∷ l) p)
-      go (Well c m) e = rw (e, wrong) (wrong_chr h k (ap character i.rest ∙ e))
-      go (Ill m) e =
-          rw (e, wrong) (ill_formed {p = p} ((ill_formed_lem (drop p text)).0 (m, ap character i.rest ∙ e)) (subst (λ (s : List ℕ). Subpart s m) (sym i.rest) (broken_subpart b l e)))
+      go : (c : Result Character IllFormed) → character (b ∷ l) ≡ c → Says text (wrong n (b ∷ l) p)
+      go (Ok c) e = rw (e, wrong) (wrong_chr h k (ap character i.rest ∙ e))
+      go (Err x) e =
+          rw (e, wrong) (ill_formed {p = p} ((ill_formed_lem (drop p text)).0 (x.len, ap character i.rest ∙ e)) (subst (λ (s : List ℕ). Subpart s x.len) (sym i.rest) (broken_subpart b l e)))
 
   -- the bytes from s on, with one more
   one_more : (s : ℕ) → s < p → take (p + 1 - s) (drop s text) ≡ take (p - s) (drop s text) ++ b ∷ []

@@ -12,10 +12,10 @@ use lib.Seq.{drop-drop}
 use borrow.Author.Tests.{ltb-true, ltb-false}
 use Rattle.sise_util.specs.Classes.{class_of}
 use Rattle.sise_util.specs.Utf8.{Utf8Octets}
-use Rattle.sise_util.specs.declared.utf8.Character.TheVariants.{Well}
+use Rattle.sise_util.specs.Utf8.{well}
 use Rattle.sise_util.proofs.Ranges.{split}
 use Rattle.sise_util.proofs.ClassLaws.{no_class}
-use Rattle.sise_util.proofs.Utf8Laws.{ascii, ValidStep, valid_step}
+use Rattle.sise_util.proofs.Utf8Laws.{size_in, ascii, ValidStep, valid_step}
 use Rattle.sise_parser.specs.Lexer.{Lexed, found, bad, wrong, between}
 use Rattle.sise_parser.proofs.Induction.{is_other, From, next_from, InAtom, Cases, in_between}
 
@@ -43,8 +43,8 @@ ascii_next b l h v =
     let s = nonempty b l v in
     subst (λ (k : ℕ). Utf8Octets (drop k (b ∷ l))) (one (sym s.well ∙ ascii b l h)) s.left
   where
-    one : {c k : ℕ} → Well c k ≡ Well b 1 → k ≡ 1
-    one e = cc
+    one : {c k : ℕ} → well c k ≡ well b 1 → k ≡ 1
+    one e = ap size_in e
 
 wrong_border : (n b : ℕ) (l : List ℕ) (p : ℕ) (text : List ℕ) → n < 8 → From text p (b ∷ l) → Utf8Octets (b ∷ l) → Bordered text (wrong n (b ∷ l) p)
 unfolding wrong

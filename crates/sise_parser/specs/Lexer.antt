@@ -1,9 +1,8 @@
 -- The token at or after a place of a text (document 01, "parser.rs: the reader"): one state of the lexer a function, one step a byte.
 -- Assumes nothing.
-use Rattle.std.specs.Prelude.{ℕ, ◌+◌, ◌-◌, List, [], ◌∷◌}
+use Rattle.std.specs.Prelude.{ℕ, ◌+◌, ◌-◌, Ok, Err, List, [], ◌∷◌}
 use Rattle.sise_util.specs.Classes.{space, semicolon, left, right, atom_chr, printable, quote, backslash, tab, line_end, other, class_of}
 use Rattle.sise_util.specs.Utf8.{character}
-use Rattle.sise_util.specs.declared.utf8.Character.TheVariants.{Well, Ill}
 use Rattle.sise_parser.specs.Refusals.{Refusal, refusal}
 
 pub data Token : Type 0 where
@@ -26,8 +25,8 @@ unfinished p = bad (refusal 4 p 0) p
 unfoldable pub wrong : ℕ → List ℕ → ℕ → Lexed
 wrong n l p =
     elim (character l) [
-      | Well c k ↦ bad (refusal n p c) (p + k)
-      | Ill k ↦ bad (refusal 8 p 0) (p + k)
+      | Ok c ↦ bad (refusal n p c.code) (p + c.len)
+      | Err i ↦ bad (refusal 8 p 0) (p + i.len)
     ]
 
 -- the token at or after p, where the bytes from p on are l, in five states: between tokens, in a comment, and in an atom that began at s outside a

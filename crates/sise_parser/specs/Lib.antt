@@ -2,6 +2,8 @@ pub mod Refusals
 pub mod Lexer
 pub mod Plain
 pub mod Reader
+pub mod PlainItems
+pub mod Phases
 pub mod Meaning
 pub mod Parser
 pub mod Refused

@@ -1,15 +1,14 @@
 -- What a refused call of next_item says of the text, and what it leaves (document 01, "Refusals").
 -- Assumes nothing.
 use Rattle.std.specs.Prelude.{ℕ, ◌+◌, ◌≤◌, ◌<◌, ◌≡◌, List, length, take, drop, get_or}
-use Rattle.sise_util.specs.Utf8.{Utf8Char, Subpart, character}
-use Rattle.sise_util.specs.declared.utf8.Character.TheVariants.{Well}
+use Rattle.sise_util.specs.Utf8.{Utf8Char, Subpart, well, character}
 use Rattle.sise_parser.specs.Refusals.{Refusal, refusal}
 use Rattle.sise_parser.specs.declared.reader.Reader.{Reader}
 
 -- a refusal of the text, and the position after it: "A refused reader call moves its position"
 pub data Refuses (text : List ℕ) : Refusal → ℕ → Type 0 where
   -- "1 to 3, after the character", whose code point it names
-  wrong_chr : {n p c k : ℕ} → 1 ≤ n → n ≤ 3 → character (drop p text) ≡ Well c k → Refuses text (refusal n p c) (p + k)
+  wrong_chr : {n p c k : ℕ} → 1 ≤ n → n ≤ 3 → character (drop p text) ≡ well c k → Refuses text (refusal n p c) (p + k)
   -- "4 and 5, to the end", and the "place is the text's length"
   unfinished : Refuses text (refusal 4 (length text) 0) (length text)
   unexpected_eof : Refuses text (refusal 5 (length text) 0) (length text)

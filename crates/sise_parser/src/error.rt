@@ -1,9 +1,9 @@
 // Why a call of the reader is refused. `pos` is a place, a byte offset in the text, and `chr` a code point. specs/Refusals.antt has document 01's
 // number of each.
 ghost use Rattle.std.specs.Prelude.{◌≡◌};
-ghost use Rattle.sise_parser.specs.Refusals.{refusal_of};
+ghost use Rattle.sise_parser.specs.Refusals.{Refusal, refusal_of};
 
-#[derive(Clone, Copy)]
+#[derive(Clone, Copy, Debug, PartialEq, Eq)]
 pub enum ParseError {
     // A character that begins no token.
     IllegalChr { pos: usize, chr: u32 },
@@ -29,11 +29,24 @@ pub enum ParseError {
     UnsoundRecord,
 }
 
-impl ParseError {
-    // Document 01's number.
-    pub fn number(self) -> u32
-        ensures { result ≡ (refusal_of self).number }
-    {
+// A refusal in numbers: document 01's number of it, and its place and code point, 0 where there is none.
+pub trait Refusal: Copy {
+    ghost meaning: { Self → Refusal };
+
+    fn number(self) -> u32
+        ensures { result ≡ (meaning self).number };
+
+    fn place(self) -> usize
+        ensures { result ≡ (meaning self).place };
+
+    fn code(self) -> u32
+        ensures { result ≡ (meaning self).code };
+}
+
+impl Refusal for ParseError {
+    ghost meaning = { refusal_of };
+
+    fn number(self) -> u32 {
         match self {
             ParseError::IllegalChr { .. } => 1,
             ParseError::IllegalChrInString { .. } => 2,
@@ -49,41 +62,26 @@ impl ParseError {
         }
     }
 
-    // The place, 0 where there is none.
-    pub fn place(self) -> usize
-        ensures { result ≡ (refusal_of self).place }
-    {
+    fn place(self) -> usize {
         match self {
-            ParseError::IllegalChr { pos, .. } => pos,
-            ParseError::IllegalChrInString { pos, .. } => pos,
-            ParseError::IllegalChrInComment { pos, .. } => pos,
-            ParseError::UnfinishedString { pos } => pos,
-            ParseError::UnexpectedEof { pos } => pos,
-            ParseError::UnexpectedRightParen { pos } => pos,
-            ParseError::ExpectedEof { pos } => pos,
-            ParseError::IllFormedChr { pos } => pos,
-            ParseError::ParsingFinished => 0,
-            ParseError::ParsingNotFinished => 0,
-            ParseError::UnsoundRecord => 0,
+            ParseError::IllegalChr { pos, .. }
+            | ParseError::IllegalChrInString { pos, .. }
+            | ParseError::IllegalChrInComment { pos, .. }
+            | ParseError::UnfinishedString { pos }
+            | ParseError::UnexpectedEof { pos }
+            | ParseError::UnexpectedRightParen { pos }
+            | ParseError::ExpectedEof { pos }
+            | ParseError::IllFormedChr { pos } => pos,
+            _ => 0,
         }
     }
 
-    // The code point, 0 where there is none.
-    pub fn code(self) -> u32
-        ensures { result ≡ (refusal_of self).code }
-    {
+    fn code(self) -> u32 {
         match self {
-            ParseError::IllegalChr { chr, .. } => chr,
-            ParseError::IllegalChrInString { chr, .. } => chr,
-            ParseError::IllegalChrInComment { chr, .. } => chr,
-            ParseError::UnfinishedString { .. } => 0,
-            ParseError::UnexpectedEof { .. } => 0,
-            ParseError::UnexpectedRightParen { .. } => 0,
-            ParseError::ExpectedEof { .. } => 0,
-            ParseError::IllFormedChr { .. } => 0,
-            ParseError::ParsingFinished => 0,
-            ParseError::ParsingNotFinished => 0,
-            ParseError::UnsoundRecord => 0,
+            ParseError::IllegalChr { chr, .. }
+            | ParseError::IllegalChrInString { chr, .. }
+            | ParseError::IllegalChrInComment { chr, .. } => chr,
+            _ => 0,
         }
     }
 }

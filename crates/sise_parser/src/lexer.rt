@@ -1,17 +1,17 @@
 // Tokens (parser.rs, `Lexer`). The table of classes is built anew at each use, so it serves where a run of bytes is long, in strings and comments; a
 // token's first byte and an atom's bytes are tested by cases and by a mask.
 ghost use Rattle.std.specs.Prelude.{◌≡◌, ◌≤◌, ◌<◌, eqb, length, drop, get_or};
-ghost use Rattle.sise_util.specs.Classes.{class_table};
+ghost use Rattle.sise_util.specs.Classes.{class_of, class_table};
 ghost use Rattle.sise_parser.specs.Refusals.{refusal, refusal_of};
 ghost use Rattle.sise_parser.specs.Lexer.{between, plain, unfinished, wrong};
-ghost use Rattle.sise_parser.specs.Plain.{skip_blanks, atom_run, AtomTo};
+ghost use Rattle.sise_parser.specs.Plain.{is_blank, skip_blanks, atom_run, AtomTo};
 ghost use Rattle.sise_parser.specs.Meaning.{lexed_as, wrong_as, place_number, Reads, Ends};
 
 use crate::error::ParseError;
 use sise_util::classes::{BACKSLASH, ClassTable, LINE_END, OTHER, QUOTE, TAB, classes};
-use sise_util::{Character, character_at, is_atom_byte};
+use sise_util::{character_at, is_atom_byte};
 
-#[derive(Clone, Copy)]
+#[derive(Clone, Copy, Debug, PartialEq, Eq)]
 pub enum Token {
     Eof,
     LeftParen,
@@ -21,24 +21,26 @@ pub enum Token {
 }
 
 // An error, and the position after it.
-#[derive(Clone, Copy)]
+#[derive(Clone, Copy, Debug, PartialEq, Eq)]
 pub struct Wrong {
     pub error: ParseError,
     pub position: usize,
 }
 
-// A token, its place and the position after it, or an error.
-#[derive(Clone, Copy)]
-pub enum Lexed {
-    Found(Token, usize, usize),
-    Refused(Wrong),
+impl From<Wrong> for ParseError {
+    ghost from_gives = { λ w e. e ≡ w.error };
+
+    fn from(wrong: Wrong) -> ParseError {
+        wrong.error
+    }
 }
 
-// Where a string that was begun ends: the position after its closing quote, or an error.
-#[derive(Clone, Copy)]
-enum StringEnd {
-    Closed(usize),
-    Refused(Wrong),
+// A token, its place and the position after it.
+#[derive(Clone, Copy, Debug, PartialEq, Eq)]
+pub struct Lexeme {
+    pub token: Token,
+    pub start: usize,
+    pub end: usize,
 }
 
 // Where a character stands that may not stand there.
@@ -73,13 +75,13 @@ fn wrong_chr(place: Place, text: &[u8], at: usize) -> Wrong
     ensures { wrong_as result ≡ wrong (place_number place) (drop at text.now) at }
 {
     match character_at(text, at) {
-        Character::Well { code, len } => Wrong {
-            error: illegal_chr(place, at, code),
-            position: at + len,
+        Ok(character) => Wrong {
+            error: illegal_chr(place, at, character.code),
+            position: at + character.len,
         },
-        Character::Ill { len } => Wrong {
+        Err(broken) => Wrong {
             error: ParseError::IllFormedChr { pos: at },
-            position: at + len,
+            position: at + broken.len,
         },
     }
 }
@@ -94,8 +96,9 @@ fn unfinished_string(at: usize) -> Wrong
     }
 }
 
-// The rest of a string from `from` on, which is after its opening quote.
-fn lex_string(text: &[u8], from: usize) -> StringEnd
+// The rest of a string from `from` on, which is after its opening quote: the position after its closing one. The loop counts places by hand: an escape
+// passes two bytes, and an error wants the place.
+fn lex_string(text: &[u8], from: usize) -> Result<usize, Wrong>
     requires { from ≤ length text.now }
     ensures { Ends text.now from result }
 {
@@ -103,20 +106,20 @@ fn lex_string(text: &[u8], from: usize) -> StringEnd
     let mut at = from;
     loop {
         if text.len() <= at {
-            return StringEnd::Refused(unfinished_string(at));
+            return Err(unfinished_string(at));
         }
         match class_at(&table, text, at) {
             QUOTE => {
-                return StringEnd::Closed(at + 1);
+                return Ok(at + 1);
             }
             BACKSLASH => {
                 at += 1;
                 if text.len() <= at {
-                    return StringEnd::Refused(unfinished_string(at));
+                    return Err(unfinished_string(at));
                 }
                 match class_at(&table, text, at) {
                     OTHER | LINE_END | TAB => {
-                        return StringEnd::Refused(wrong_chr(Place::InString, text, at));
+                        return Err(wrong_chr(Place::InString, text, at));
                     }
                     _ => {
                         at += 1;
@@ -124,7 +127,7 @@ fn lex_string(text: &[u8], from: usize) -> StringEnd
                 }
             }
             TAB | LINE_END | OTHER => {
-                return StringEnd::Refused(wrong_chr(Place::InString, text, at));
+                return Err(wrong_chr(Place::InString, text, at));
             }
             _ => {
                 at += 1;
@@ -133,48 +136,42 @@ fn lex_string(text: &[u8], from: usize) -> StringEnd
     }
 }
 
-// The first place from `from` on that holds no blank, or the end. The arms of blanks are two, since Rattle makes a range of neighbours.
+// Whether `byte` is a blank. The arms are two, since Rattle makes a range of neighbours.
+fn is_blank(byte: u8) -> bool
+    ensures { result ≡ is_blank (class_of byte) }
+{
+    match byte {
+        b' ' | b'\n' => true,
+        b'\t' | b'\r' => true,
+        _ => false,
+    }
+}
+
+// The first place from `from` on that holds no blank, or the end. The loop counts by hand, as atom_run's: a search of the rest's iterator, tried in both, has to
+// make that rest first, and a tree of short tokens took up to half as long again to read.
 pub fn skip_blanks(text: &[u8], from: usize) -> usize
     ensures same { result ≡ skip_blanks (drop from text.now) from }
     ensures after { from ≤ result }
     ensures token { between (drop from text.now) from ≡ between (drop result text.now) result }
 {
     let mut at = from;
-    loop {
-        if text.len() <= at {
-            return at;
-        }
-        match text[at] {
-            b' ' | b'\n' => {
-                at += 1;
-            }
-            b'\t' | b'\r' => {
-                at += 1;
-            }
-            _ => {
-                return at;
-            }
-        }
+    while at < text.len() && is_blank(text[at]) {
+        at += 1;
     }
+    at
 }
 
-// The end of the run of atom characters that begins at `start`.
+// The end of the run of atom characters that begins at `start`. It counts by hand too, for the same reason.
 pub fn atom_run(text: &[u8], start: usize) -> usize
     ensures same { result ≡ atom_run (drop start text.now) start }
     ensures after { start ≤ result }
     ensures token { AtomTo text.now start result }
 {
     let mut at = start;
-    loop {
-        if text.len() <= at {
-            return at;
-        }
-        if is_atom_byte(text[at]) {
-            at += 1;
-        } else {
-            return at;
-        }
+    while at < text.len() && is_atom_byte(text[at]) {
+        at += 1;
     }
+    at
 }
 
 // Whether a `"` stands at `at`.
@@ -184,42 +181,48 @@ pub fn is_quote_at(text: &[u8], at: usize) -> bool
     at < text.len() && text[at] == b'"'
 }
 
-// The atom that begins at `start`: it runs to the end of the text or to a byte outside strings that is no atom character and no quote.
-fn lex_atom(text: &[u8], start: usize) -> Lexed
+// The atom that begins at `start`: it runs to the end of the text or to a byte outside strings that is no atom character and no quote. The loop counts
+// places by hand: a string is passed at once.
+fn lex_atom(text: &[u8], start: usize) -> Result<Lexeme, Wrong>
     requires { start ≤ length text.now }
     ensures { lexed_as result ≡ plain (drop start text.now) start start }
 {
     let mut at = start;
     loop {
         if text.len() <= at {
-            return Lexed::Found(Token::Atom(at - start), start, at);
+            return Ok(Lexeme {
+                token: Token::Atom(at - start),
+                start,
+                end: at,
+            });
         }
         let byte = text[at];
         if is_atom_byte(byte) {
             at += 1;
         } else if byte == b'"' {
-            match lex_string(text, at + 1) {
-                StringEnd::Closed(end) => {
-                    at = end;
-                }
-                StringEnd::Refused(wrong) => {
-                    return Lexed::Refused(wrong);
-                }
-            }
+            at = lex_string(text, at + 1)?;
         } else {
-            return Lexed::Found(Token::Atom(at - start), start, at);
+            return Ok(Lexeme {
+                token: Token::Atom(at - start),
+                start,
+                end: at,
+            });
         }
     }
 }
 
 // The token at or after `from`: blanks and comments are skipped. The arms of blanks are two, since Rattle makes a range of neighbours.
-pub(crate) fn get_token(text: &[u8], from: usize) -> Lexed
+pub(crate) fn get_token(text: &[u8], from: usize) -> Result<Lexeme, Wrong>
     ensures { lexed_as result ≡ between (drop from text.now) from }
 {
     let mut at = from;
     'token: loop {
         if text.len() <= at {
-            break 'token Lexed::Found(Token::Eof, at, at);
+            break 'token Ok(Lexeme {
+                token: Token::Eof,
+                start: at,
+                end: at,
+            });
         }
         let byte = text[at];
         match byte {
@@ -230,17 +233,29 @@ pub(crate) fn get_token(text: &[u8], from: usize) -> Lexed
                 at += 1;
             }
             b'(' => {
-                break 'token Lexed::Found(Token::LeftParen, at, at + 1);
+                break 'token Ok(Lexeme {
+                    token: Token::LeftParen,
+                    start: at,
+                    end: at + 1,
+                });
             }
             b')' => {
-                break 'token Lexed::Found(Token::RightParen, at, at + 1);
+                break 'token Ok(Lexeme {
+                    token: Token::RightParen,
+                    start: at,
+                    end: at + 1,
+                });
             }
             b';' => {
                 let table = classes();
                 at += 1;
                 'comment: loop {
                     if text.len() <= at {
-                        break 'token Lexed::Found(Token::Eof, at, at);
+                        break 'token Ok(Lexeme {
+                            token: Token::Eof,
+                            start: at,
+                            end: at,
+                        });
                     }
                     match class_at(&table, text, at) {
                         LINE_END => {
@@ -248,7 +263,7 @@ pub(crate) fn get_token(text: &[u8], from: usize) -> Lexed
                             break 'comment;
                         }
                         OTHER => {
-                            break 'token Lexed::Refused(wrong_chr(Place::InComment, text, at));
+                            break 'token Err(wrong_chr(Place::InComment, text, at));
                         }
                         _ => {
                             at += 1;
@@ -260,7 +275,7 @@ pub(crate) fn get_token(text: &[u8], from: usize) -> Lexed
                 if is_atom_byte(byte) || byte == b'"' {
                     break 'token lex_atom(text, at);
                 }
-                break 'token Lexed::Refused(wrong_chr(Place::Outside, text, at));
+                break 'token Err(wrong_chr(Place::Outside, text, at));
             }
         }
     }

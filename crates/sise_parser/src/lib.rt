@@ -4,9 +4,11 @@
 mod error;
 mod lexer;
 mod parser;
+mod plain;
 mod reader;
 
-pub use error::ParseError;
+pub use error::{ParseError, Refusal};
 pub use lexer::{atom_run, is_quote_at, skip_blanks};
 pub use parser::{Parsed, Parser};
-pub use reader::{Answer, Finished, Next, ParsedItem, Phase, Reader, atom_bytes, item_ahead};
+pub use plain::{PlainItem, plain_item};
+pub use reader::{Next, ParsedItem, Phase, Reader, UnknownPhase, atom_bytes, item_ahead};

@@ -1,11 +1,11 @@
-// The thin reader: a text and the reader's record in one struct, as the crate's Parser has them. The proof of a function with such a struct is written
-// by hand, so each only takes the struct apart and calls one without it.
+// The thin reader: a text and the reader's record in one struct, as the crate's Parser has them. Each call takes the struct apart and makes the record's.
 ghost use Rattle.std.specs.Prelude.{◌≡◌};
-ghost use Rattle.sise_parser.specs.Reader.{next_item, finish_reading};
-ghost use Rattle.sise_parser.specs.Meaning.{next_as, finished_as};
+ghost use Rattle.sise_parser.specs.Reader.{finish_reading};
+ghost use Rattle.sise_parser.specs.Meaning.{finished_as};
 ghost use Rattle.sise_parser.specs.Parser.{parser_of, parsed_as, parsed_of};
 
-use crate::reader::{Answer, Finished, Next, Reader};
+use crate::error::ParseError;
+use crate::reader::{ParsedItem, Reader};
 
 #[derive(Clone, Copy)]
 pub struct Parser<'a> {
@@ -17,20 +17,7 @@ pub struct Parser<'a> {
 #[derive(Clone, Copy)]
 pub struct Parsed<'a> {
     pub parser: Parser<'a>,
-    pub answer: Answer,
-}
-
-// The record's two calls with the text first, in the order of the struct's fields: what a parser holds is then what they take.
-fn next_item_in(text: &[u8], reader: Reader) -> Next
-    ensures { next_as result ≡ next_item text.now reader }
-{
-    reader.next_item(text)
-}
-
-fn finish_in(text: &[u8], reader: Reader) -> Finished
-    ensures { finished_as result ≡ finish_reading text.now reader }
-{
-    reader.finish(text)
+    pub answer: Result<ParsedItem, ParseError>,
 }
 
 impl<'a> Parser<'a> {
@@ -48,7 +35,7 @@ impl<'a> Parser<'a> {
     pub fn next_item(self) -> Parsed<'a>
         ensures { parsed_as result ≡ parsed_of self.entry }
     {
-        let next = next_item_in(self.text, self.reader);
+        let next = self.reader.next_item(self.text);
         Parsed {
             parser: Parser {
                 text: self.text,
@@ -59,9 +46,9 @@ impl<'a> Parser<'a> {
     }
 
     // Whether the text ends after the last item.
-    pub fn finish(self) -> Finished
+    pub fn finish(self) -> Result<(), ParseError>
         ensures { finished_as result ≡ finish_reading self.entry.text.now self.entry.reader }
     {
-        finish_in(self.text, self.reader)
+        self.reader.finish(self.text)
     }
 }

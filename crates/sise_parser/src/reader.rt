@@ -1,24 +1,43 @@
 // The reader's record and its two calls.
 ghost use Rattle.std.specs.Prelude.{◌≡◌, ◌≤◌, ◌<◌, ◌^◌};
 ghost use Rattle.sise_parser.specs.Reader.{fresh_reader, lists_fit, is_sound, in_beginning, in_parsing, next_item, finish_reading, part_of, next, reader};
-ghost use Rattle.sise_parser.specs.Lexer.{found};
-ghost use Rattle.sise_parser.specs.Meaning.{token_as, next_as, finished_as};
-ghost use Rattle.sise_parser.specs.Reader.{item as answer_item, refused as answer_refused};
-ghost use Rattle.sise_parser.specs.Refusals.{refusal_of};
+ghost use Rattle.sise_parser.specs.Phases.{ReadsPhase};
+ghost use Rattle.sise_parser.specs.Meaning.{lexeme_as, answer_as, next_as, finished_as};
 
 use crate::error::ParseError;
-use crate::lexer::{Lexed, Token, get_token, skip_blanks};
+use crate::lexer::{Lexeme, Token, get_token, skip_blanks};
+use crate::plain::plain_item;
 
 // Where the reader is in the text: before the first item, inside the outermost list, or after the last item.
-#[derive(Clone, Copy)]
+#[derive(Clone, Copy, Debug, PartialEq, Eq)]
 pub enum Phase {
     Beginning,
     Parsing,
     Finishing,
 }
 
+// A number that no phase has.
+#[derive(Clone, Copy, Debug, PartialEq, Eq)]
+pub struct UnknownPhase(pub u64);
+
+// The phase with a number: 0 beginning, 1 parsing, 2 finishing.
+impl TryFrom<u64> for Phase {
+    type Error = UnknownPhase;
+
+    ghost try_from_gives = { ReadsPhase };
+
+    fn try_from(word: u64) -> Result<Phase, UnknownPhase> {
+        match word {
+            0 => Ok(Phase::Beginning),
+            1 => Ok(Phase::Parsing),
+            2 => Ok(Phase::Finishing),
+            _ => Err(UnknownPhase(word)),
+        }
+    }
+}
+
 // The reader's record, which each call takes and hands back: the position, the phase and the number of open lists.
-#[derive(Clone, Copy)]
+#[derive(Clone, Copy, Debug, PartialEq, Eq)]
 pub struct Reader {
     pub position: usize,
     pub phase: Phase,
@@ -26,30 +45,18 @@ pub struct Reader {
 }
 
 // An item and its place; of an atom also its number of bytes.
-#[derive(Clone, Copy)]
+#[derive(Clone, Copy, Debug, PartialEq, Eq)]
 pub enum ParsedItem {
     Atom { pos: usize, len: usize },
     ListStart { pos: usize },
     ListEnd { pos: usize },
 }
 
-#[derive(Clone, Copy)]
-pub enum Answer {
-    Item(ParsedItem),
-    Refused(ParseError),
-}
-
-// What next_item hands back.
-#[derive(Clone, Copy)]
+// What next_item hands back: the record for the next call, and the item.
+#[derive(Clone, Copy, Debug, PartialEq, Eq)]
 pub struct Next {
     pub reader: Reader,
-    pub answer: Answer,
-}
-
-#[derive(Clone, Copy)]
-pub enum Finished {
-    Done,
-    Refused(ParseError),
+    pub answer: Result<ParsedItem, ParseError>,
 }
 
 // Whether so many lists may be open in a phase: one at least exactly while parsing.
@@ -57,14 +64,19 @@ fn lists_fit(phase: Phase, lists: usize) -> bool
     ensures { result ≡ lists_fit phase lists }
 {
     match phase {
-        Phase::Beginning => lists == 0,
         Phase::Parsing => 1 <= lists,
-        Phase::Finishing => lists == 0,
+        Phase::Beginning | Phase::Finishing => lists == 0,
     }
 }
 
-fn refused(position: usize, phase: Phase, lists: usize, error: ParseError) -> Next
-    ensures { next_as result ≡ next (reader position phase lists) (answer_refused (refusal_of error)) }
+// What next_item hands back, from the record's parts, which are handed over one by one since that is faster than a struct.
+fn answered(
+    position: usize,
+    phase: Phase,
+    lists: usize,
+    answer: Result<ParsedItem, ParseError>,
+) -> Next
+    ensures { next_as result ≡ next (reader position phase lists) (answer_as answer) }
 {
     Next {
         reader: Reader {
@@ -72,85 +84,75 @@ fn refused(position: usize, phase: Phase, lists: usize, error: ParseError) -> Ne
             phase,
             lists,
         },
-        answer: Answer::Refused(error),
-    }
-}
-
-fn item(position: usize, phase: Phase, lists: usize, item: ParsedItem) -> Next
-    ensures { next_as result ≡ next (reader position phase lists) (answer_item item) }
-{
-    Next {
-        reader: Reader {
-            position,
-            phase,
-            lists,
-        },
-        answer: Answer::Item(item),
+        answer,
     }
 }
 
 // What a token gives before the first item.
-fn first_item(lists: usize, token: Token, start: usize, end: usize) -> Next
-    ensures { next_as result ≡ in_beginning lists (found (token_as token) start end) }
+fn first_item(lists: usize, found: Lexeme) -> Next
+    ensures { next_as result ≡ in_beginning lists (lexeme_as found) }
 {
-    match token {
-        Token::Eof => refused(
-            end,
+    let pos = found.start;
+    match found.token {
+        Token::Eof => answered(
+            found.end,
             Phase::Beginning,
             lists,
-            ParseError::UnexpectedEof { pos: start },
+            Err(ParseError::UnexpectedEof { pos }),
         ),
-        Token::LeftParen => item(end, Phase::Parsing, 1, ParsedItem::ListStart { pos: start }),
-        Token::RightParen => refused(
-            end,
+        Token::LeftParen => answered(
+            found.end,
+            Phase::Parsing,
+            1,
+            Ok(ParsedItem::ListStart { pos }),
+        ),
+        Token::RightParen => answered(
+            found.end,
             Phase::Beginning,
             lists,
-            ParseError::UnexpectedRightParen { pos: start },
+            Err(ParseError::UnexpectedRightParen { pos }),
         ),
-        Token::Atom(len) => item(
-            end,
+        Token::Atom(len) => answered(
+            found.end,
             Phase::Finishing,
             lists,
-            ParsedItem::Atom { pos: start, len },
+            Ok(ParsedItem::Atom { pos, len }),
         ),
     }
 }
 
 // What a token gives inside the outermost list.
-fn inner_item(lists: usize, token: Token, start: usize, end: usize) -> Next
+fn inner_item(lists: usize, found: Lexeme) -> Next
     requires { (1 ≤ lists) × (lists < 2 ^ 63) }
-    ensures { next_as result ≡ in_parsing lists (found (token_as token) start end) }
+    ensures { next_as result ≡ in_parsing lists (lexeme_as found) }
 {
-    match token {
-        Token::Eof => refused(
-            end,
+    let pos = found.start;
+    match found.token {
+        Token::Eof => answered(
+            found.end,
             Phase::Parsing,
             lists,
-            ParseError::UnexpectedEof { pos: start },
+            Err(ParseError::UnexpectedEof { pos }),
         ),
-        Token::LeftParen => item(
-            end,
+        Token::LeftParen => answered(
+            found.end,
             Phase::Parsing,
             lists + 1,
-            ParsedItem::ListStart { pos: start },
+            Ok(ParsedItem::ListStart { pos }),
         ),
         Token::RightParen => {
-            if lists == 1 {
-                item(end, Phase::Finishing, 0, ParsedItem::ListEnd { pos: start })
+            let phase = if lists == 1 {
+                Phase::Finishing
             } else {
-                item(
-                    end,
-                    Phase::Parsing,
-                    lists - 1,
-                    ParsedItem::ListEnd { pos: start },
-                )
-            }
+                Phase::Parsing
+            };
+            answered(found.end, phase, lists - 1, Ok(ParsedItem::ListEnd { pos }))
         }
-        Token::Atom(len) => item(
-            end,
+        Token::Atom(len) => answered(
+            found.end,
             Phase::Parsing,
             lists,
-            ParsedItem::Atom { pos: start, len },
+            Ok(ParsedItem::Atom { pos, len }),
         ),
     }
 }
@@ -168,61 +170,41 @@ impl Reader {
     }
 
     // Whether the record is one that a reader of a text of `len` bytes may have.
-    fn is_sound(self, len: usize) -> bool
+    pub(crate) fn is_sound(self, len: usize) -> bool
         ensures { result ≡ is_sound len self }
     {
-        let phase = self.phase;
-        if len < self.position || self.position < self.lists {
-            return false;
-        }
-        lists_fit(phase, self.lists)
+        self.position <= len && self.lists <= self.position && lists_fit(self.phase, self.lists)
     }
 
-    // The next item of the text. The record that comes back is for the next call, after a refusal too. A bracket right at the position is found here, in few
-    // steps, so that the call costs nothing in a loop.
+    // The next item of the text. The record that comes back is for the next call, after a refusal too. A plain item is found without the lexer, so that the
+    // call costs little in a loop.
+    #[inline(always)]
     pub fn next_item(self, text: &[u8]) -> Next
         ensures { next_as result ≡ next_item text.now self }
     {
-        let position = self.position;
-        let phase = self.phase;
-        let lists = self.lists;
-        if let Phase::Parsing = phase {
-            if position < text.len() && lists <= position && 1 < lists {
-                let byte = text[position];
-                if byte == b'(' {
-                    let start = ParsedItem::ListStart { pos: position };
-                    return item(position + 1, Phase::Parsing, lists + 1, start);
-                }
-                if byte == b')' {
-                    let end = ParsedItem::ListEnd { pos: position };
-                    return item(position + 1, Phase::Parsing, lists - 1, end);
-                }
-            }
+        match plain_item(text, self) {
+            Some(plain) => Next {
+                reader: plain.reader,
+                answer: Ok(plain.item),
+            },
+            None => item_ahead(self.position, self.phase, self.lists, text),
         }
-        item_ahead(position, phase, lists, text)
     }
 
     // Whether the text ends after the last item.
-    pub fn finish(self, text: &[u8]) -> Finished
+    pub fn finish(self, text: &[u8]) -> Result<(), ParseError>
         ensures { finished_as result ≡ finish_reading text.now self }
     {
-        let position = self.position;
-        let phase = self.phase;
         if !self.is_sound(text.len()) {
-            return Finished::Refused(ParseError::UnsoundRecord);
+            return Err(ParseError::UnsoundRecord);
         }
-        let Phase::Finishing = phase else {
-            return Finished::Refused(ParseError::ParsingNotFinished);
+        let Phase::Finishing = self.phase else {
+            return Err(ParseError::ParsingNotFinished);
         };
-        match get_token(text, position) {
-            Lexed::Refused(wrong) => {
-                let error = wrong.error;
-                Finished::Refused(error)
-            }
-            Lexed::Found(token, start, _) => match token {
-                Token::Eof => Finished::Done,
-                _ => Finished::Refused(ParseError::ExpectedEof { pos: start }),
-            },
+        let found = get_token(text, self.position)?;
+        match found.token {
+            Token::Eof => Ok(()),
+            _ => Err(ParseError::ExpectedEof { pos: found.start }),
         }
     }
 }
@@ -248,21 +230,18 @@ pub fn item_ahead(position: usize, phase: Phase, lists: usize, text: &[u8]) -> N
         lists,
     };
     if !record.is_sound(text.len()) {
-        return refused(position, phase, lists, ParseError::UnsoundRecord);
+        return answered(position, phase, lists, Err(ParseError::UnsoundRecord));
     }
     if let Phase::Finishing = phase {
-        return refused(position, phase, lists, ParseError::ParsingFinished);
+        return answered(position, phase, lists, Err(ParseError::ParsingFinished));
     }
     match get_token(text, skip_blanks(text, position)) {
-        Lexed::Refused(wrong) => {
-            let error = wrong.error;
-            refused(wrong.position, phase, lists, error)
-        }
-        Lexed::Found(token, start, end) => {
+        Err(wrong) => answered(wrong.position, phase, lists, Err(wrong.error)),
+        Ok(found) => {
             if let Phase::Beginning = phase {
-                first_item(lists, token, start, end)
+                first_item(lists, found)
             } else {
-                inner_item(lists, token, start, end)
+                inner_item(lists, found)
             }
         }
     }

@@ -5,13 +5,11 @@ use mathlib.Core.Path.{◌≡◌, refl, sym, ap, ap₂, ◌∙◌}
 use mathlib.Core.List.{List}
 use lib.ListN.{length, length-take}
 use Rattle.sise_serializer.specs.declared.serializer.Serializer.{Serializer}
-use Rattle.sise_layout.specs.Texts as layout
 use Rattle.sise_tree.specs.Tree.{size}
-use Rattle.sise_tree.specs.declared.parse.ParsedTree.{ParsedTree}
-use Rattle.sise_tree.specs.declared.parse.ParsedTree.TheVariants.{Nodes}
+use Rattle.std.specs.Prelude.{Result, Ok}
+use Rattle.sise_tree.specs.declared.parse.TreeError.{TreeError}
 use Rattle.sise_tree_writer.specs.Alike.{Tree, ReadsAs}
-use Rattle.sise_tree_writer.specs.declared.serialize.PutTree.{PutTree}
-use Rattle.sise_tree_writer.specs.declared.serialize.PutTree.TheVariants.{At}
+use Rattle.sise_tree_writer.specs.declared.serialize.WriteTreeError.{WriteTreeError}
 use Rattle.sise_tree_writer.specs.declared.serialize.TreeWrote.{TreeWrote}
 use Rattle.sise_tree_writer.proofs.Lossless.{put_lossless}
 use Rattle.sise_reprint.specs.Equal.{Equal}
@@ -25,17 +23,17 @@ use Rattle.sise_reprint.proofs.Final.{fits_reprinted, reprint_alike}
 
 -- such a text: parse_text returns its number of nodes, and the house call an offset
 pub returned_accepted : (t : ℕ) (text words buffer : List ℕ) {x : Tree} (r : ReadsAs text x) → Fits t text words buffer r
-    → {parsed : ParsedTree} {table : List ℕ} {wrote : TreeWrote} {now : List ℕ} → Calls t text words buffer parsed table wrote now
-    → (parsed ≡ Nodes (size r.node)) × ((o : ℕ) × (wrote.answer ≡ At o))
+    → {parsed : Result ℕ TreeError} {table : List ℕ} {wrote : TreeWrote} {now : List ℕ} → Calls t text words buffer parsed table wrote now
+    → (parsed ≡ Ok (size r.node)) × ((o : ℕ) × (wrote.answer ≡ Ok o))
 returned_accepted t text words buffer r f c = let h = fits_reprinted t text words buffer r f in (returns_nodes c h, returns_offset c h)
 
 -- the calls made once more on the text that was written, with any table that holds the nodes and any buffer that holds the bytes: the same number of nodes,
 -- the same answer and record, and the same bytes
 pub returned_final : {t : ℕ} {text words buffer : List ℕ} {k o : ℕ} {table : List ℕ} {wrote : TreeWrote} {now : List ℕ}
-    → Calls t text words buffer (Nodes k) table wrote now → wrote.answer ≡ At o
-    → {words' buffer' : List ℕ} {parsed' : ParsedTree} {table' : List ℕ} {wrote' : TreeWrote} {now' : List ℕ}
+    → Calls t text words buffer (Ok k) table wrote now → wrote.answer ≡ Ok o
+    → {words' buffer' : List ℕ} {parsed' : Result ℕ TreeError} {table' : List ℕ} {wrote' : TreeWrote} {now' : List ℕ}
     → Calls t (text_by wrote now) words' buffer' parsed' table' wrote' now' → k ≤ length words' / 4 → wrote.serializer.position ≤ length buffer'
-    → (parsed' ≡ Nodes k) × (wrote' ≡ wrote) × (text_by wrote' now' ≡ text_by wrote now)
+    → (parsed' ≡ Ok k) × (wrote' ≡ wrote) × (text_by wrote' now' ≡ text_by wrote now)
 returned_final {t} {text} {words} {buffer} {k} {o} {table} {wrote} {now} c w {words'} {buffer'} {parsed'} {table'} {wrote'} {now'} c' nodes room =
     let out = text_by wrote now in
     let r = was_reprinted t text words buffer (returned_reprint c refl w) in
@@ -47,16 +45,16 @@ returned_final {t} {text} {words} {buffer} {k} {o} {table} {wrote} {now} c w {wo
     returns_record c' r' ∙ ap (λ (x : Tree). (printing t x buffer').serializer) one ∙ record_same ∙ sym (returns_record c r) in
     let answer : wrote'.answer ≡ wrote.answer =
     put_lossless wrote'.answer wrote.answer (returns_answer c' r' ∙ ap (λ (x : Tree). (printing t x buffer').answer) one ∙ answer-same ∙ sym (returns_answer c r)) in
-    (returns_nodes c' r', ap₂ (λ (x : Serializer) (y : PutTree). wrote_with x y) serializer answer, returns_text c' r')
+    (returns_nodes c' r', ap₂ (λ (x : Serializer) (y : Result ℕ WriteTreeError). wrote_with x y) serializer answer, returns_text c' r')
   where
-    wrote_with : Serializer → PutTree → TreeWrote
+    wrote_with : Serializer → Result ℕ WriteTreeError → TreeWrote
     wrote_with x y = record { serializer = x; answer = y }
 
 -- two programs, each with a text, a table and a buffer of its own: they wrote the same bytes exactly if their trees are equal
 pub returned_alike : {t : ℕ}
     {text₁ words₁ buffer₁ table₁ now₁ text₂ words₂ buffer₂ table₂ now₂ : List ℕ} {k₁ o₁ k₂ o₂ : ℕ} {wrote₁ wrote₂ : TreeWrote} {x₁ x₂ : Tree}
-    → ReadsAs text₁ x₁ → Calls t text₁ words₁ buffer₁ (Nodes k₁) table₁ wrote₁ now₁ → wrote₁.answer ≡ At o₁
-    → ReadsAs text₂ x₂ → Calls t text₂ words₂ buffer₂ (Nodes k₂) table₂ wrote₂ now₂ → wrote₂.answer ≡ At o₂
+    → ReadsAs text₁ x₁ → Calls t text₁ words₁ buffer₁ (Ok k₁) table₁ wrote₁ now₁ → wrote₁.answer ≡ Ok o₁
+    → ReadsAs text₂ x₂ → Calls t text₂ words₂ buffer₂ (Ok k₂) table₂ wrote₂ now₂ → wrote₂.answer ≡ Ok o₂
     → (text_by wrote₁ now₁ ≡ text_by wrote₂ now₂ → Equal x₁ x₂) × (Equal x₁ x₂ → text_by wrote₁ now₁ ≡ text_by wrote₂ now₂)
 returned_alike {t} {text₁} {words₁} {buffer₁} {text₂ = text₂} {words₂ = words₂} {buffer₂ = buffer₂} a₁ c₁ w₁ a₂ c₂ w₂ =
     reprint_alike t text₁ words₁ buffer₁ text₂ words₂ buffer₂ a₁ (returned_reprint c₁ refl w₁) a₂ (returned_reprint c₂ refl w₂)

@@ -7,8 +7,8 @@ use mathlib.Core.Path.{◌≡◌, refl, ap}
 use mathlib.Core.List.{List, [], ◌∷◌}
 use lib.ListN.{length, get_or}
 use Rattle.sise_parser.specs.Examples.{worked_text}
-use Rattle.sise_tree.specs.declared.parse.ParsedTree.{ParsedTree}
-use Rattle.sise_tree.specs.declared.parse.ParsedTree.TheVariants.{Nodes}
+use Rattle.std.specs.Prelude.{Result, Ok}
+use Rattle.sise_tree.specs.declared.parse.TreeError.{TreeError}
 use Rattle.sise_tree_writer.specs.declared.serialize.TreeWrote.{TreeWrote}
 use Rattle.sise_reprint.specs.Equal.{Equal, atoms, lists, more}
 use Rattle.sise_reprint.specs.Reprint.{reprinted, reprint, Calls, text_by}
@@ -46,7 +46,7 @@ module _ (t : ℕ) (words₁ buffer₁ words₂ buffer₂ : List ℕ) {k₁ k₂
   atom_differs g e = differ ((reprint_alike t worked_text words₁ buffer₁ other_text words₂ buffer₂ worked_reads h other_reads g).0 e)
 
 -- calls made on `a`: made once more on what they wrote, whatever they are lent, they return the same
-pub made_final : {words' buffer' : List ℕ} {parsed' : ParsedTree} {table' : List ℕ} {wrote' : TreeWrote} {now' : List ℕ}
+pub made_final : {words' buffer' : List ℕ} {parsed' : Result ℕ TreeError} {table' : List ℕ} {wrote' : TreeWrote} {now' : List ℕ}
     → Calls 72 (97 ∷ 10 ∷ []) words' buffer' parsed' table' wrote' now' → 1 ≤ length words' / 4 → 2 ≤ length buffer'
-    → (parsed' ≡ Nodes 1) × (text_by wrote' now' ≡ 97 ∷ 10 ∷ [])
+    → (parsed' ≡ Ok 1) × (text_by wrote' now' ≡ 97 ∷ 10 ∷ [])
 made_final c nodes room = let (p, w, t) = returned_final calls_made refl c nodes room in (p, t)

@@ -7,13 +7,12 @@ use lib.ListN.{take}
 use Rattle.sise_serializer.specs.declared.serializer.Serializer.{Serializer}
 use Rattle.sise_tree.specs.Answers.{answered, parsed_as}
 use Rattle.sise_tree.specs.ParseText.{ParsesText, parse_text}
-use Rattle.sise_tree.specs.declared.parse.ParsedTree.{ParsedTree}
-use Rattle.sise_tree.specs.declared.parse.ParsedTree.TheVariants.{Nodes}
+use Rattle.std.specs.Prelude.{Result, Ok}
+use Rattle.sise_tree.specs.declared.parse.TreeError.{TreeError}
 use Rattle.sise_tree.proofs.Lossless.{parsed_lossless}
 use Rattle.sise_tree_writer.specs.Answers.{put_as}
 use Rattle.sise_tree_writer.specs.SerializeTree.{Writes}
 use Rattle.sise_tree_writer.specs.House.{house_at}
-use Rattle.sise_tree_writer.specs.declared.serialize.PutTree.TheVariants.{At}
 use Rattle.sise_tree_writer.specs.declared.serialize.TreeWrote.{TreeWrote}
 use Rattle.sise_tree_writer.proofs.Lossless.{put_lossless}
 use Rattle.sise_reprint.specs.Reprint.{reprinted, after_house, after_parse, reprint, Calls, text_by}
@@ -21,7 +20,7 @@ use Rattle.sise_reprint.proofs.Parsed.{parses_to}
 use Rattle.sise_reprint.proofs.House.{printing, fits_answer, fits_made}
 use Rattle.sise_reprint.proofs.Reprinted.{Reprinted, tree, after_parse_lem}
 
-module _ {t : ℕ} {text words buffer : List ℕ} {parsed : ParsedTree} {table : List ℕ} {wrote : TreeWrote} {now : List ℕ} (c : Calls t text words buffer parsed table wrote now) where
+module _ {t : ℕ} {text words buffer : List ℕ} {parsed : Result ℕ TreeError} {table : List ℕ} {wrote : TreeWrote} {now : List ℕ} (c : Calls t text words buffer parsed table wrote now) where
   -- the house call, with the words that parse_text left
   written : house_at t buffer text table ≡ house_at t buffer text (parse_text text words).words
   written = ap (house_at t buffer text) c.parse.words
@@ -32,7 +31,7 @@ module _ {t : ℕ} {text words buffer : List ℕ} {parsed : ParsedTree} {table :
       ∙ ap (λ (d : Writes). take d.serializer.position d.buffer) written
 
   -- both answered
-  pub returned_reprint : {k o : ℕ} → parsed ≡ Nodes k → wrote.answer ≡ At o → reprint t text words buffer ≡ reprinted k (text_by wrote now)
+  pub returned_reprint : {k o : ℕ} → parsed ≡ Ok k → wrote.answer ≡ Ok o → reprint t text words buffer ≡ reprinted k (text_by wrote now)
   unfolding reprint
   returned_reprint {k} {o} p w =
       let d = house_at t buffer text (parse_text text words).words in
@@ -42,10 +41,10 @@ module _ {t : ℕ} {text words buffer : List ℕ} {parsed : ParsedTree} {table :
 
   -- a text that is reprinted: what the calls return
   module _ {k : ℕ} {out : List ℕ} (r : Reprinted t text words buffer k out) where
-    pub returns_nodes : parsed ≡ Nodes k
+    pub returns_nodes : parsed ≡ Ok k
     returns_nodes =
         let p = r.parsed in
-        parsed_lossless parsed (Nodes k)
+        parsed_lossless parsed (Ok k)
         (c.parse.answer ∙ ap (λ (y : ParsesText). y.answer) (parses_to text words p.short p.reads p.ends p.table) ∙ ap answered (sym p.nodes))
 
     made : house_at t buffer text table ≡ printing t (tree r) buffer
@@ -57,10 +56,10 @@ module _ {t : ℕ} {text words buffer : List ℕ} {parsed : ParsedTree} {table :
     pub returns_answer : put_as wrote.answer ≡ (printing t (tree r) buffer).answer
     returns_answer = c.write.answer ∙ ap (λ (d : Writes). d.answer) made
 
-    pub returns_offset : (o : ℕ) × (wrote.answer ≡ At o)
+    pub returns_offset : (o : ℕ) × (wrote.answer ≡ Ok o)
     returns_offset =
         let (o, a) = fits_answer t (tree r) buffer r.prints.fit in
-        (o, put_lossless wrote.answer (At o) (returns_answer ∙ a))
+        (o, put_lossless wrote.answer (Ok o) (returns_answer ∙ a))
 
     pub returns_text : text_by wrote now ≡ out
     returns_text =

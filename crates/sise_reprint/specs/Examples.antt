@@ -1,6 +1,6 @@
 -- Reprints by computation: document 01's worked text; one with comments, CRLF and odd spacing, which has the same tree; one with another atom; and refusals.
 -- Assumes nothing.
-use Rattle.std.specs.Prelude.{ℕ, ◌≡◌, refl, false, List, [], ◌∷◌, ◌++◌, replicate}
+use Rattle.std.specs.Prelude.{Ok, ℕ, ◌≡◌, refl, false, List, [], ◌∷◌, ◌++◌, replicate}
 use Rattle.sise_util.specs.Chars.{within, one_of, is_atom_chr, marks}
 use Rattle.sise_util.specs.Classes.{class_of}
 use Rattle.sise_util.specs.Atom.{is_atom, outside, inside, escaped, has_quote, is_string, ends_string, ends_escaped, kind_of, kind_prefix, is_atom_prefix}
@@ -19,12 +19,10 @@ use Rattle.sise_tree.specs.Tree.{atom, list, empty, ◌then◌, size, sizes, chi
 use Rattle.sise_tree.specs.Decision.{guard, bind, row, ahead, only, decide}
 use Rattle.sise_tree.specs.ParseTree.{snoc, attach, close, turn, read_stage, read_answer, read_from, read_node, filled_with}
 use Rattle.sise_tree.specs.ParseText.{placed_in, parse_text}
-use Rattle.sise_tree.specs.declared.parse.ParsedTree.TheVariants.{Nodes}
 use Rattle.sise_tree_writer.specs.SerializeTree.{node_calls, row_calls, fits, written, write_node, write_tree}
 use Rattle.sise_tree_writer.specs.Writing.{text_calls}
 use Rattle.sise_tree_writer.specs.House.{house_style, house_at}
 use Rattle.sise_tree_writer.specs.Alike.{Tree, leaf, branch, nothing, ◌also◌, tree_of, trees_of, ReadsAs}
-use Rattle.sise_tree_writer.specs.declared.serialize.PutTree.TheVariants.{At}
 use Rattle.sise_reprint.specs.Reprint.{reprinted, refused_by, reprint, Calls}
 
 -- words and bytes that were used before
@@ -116,6 +114,6 @@ atom_record = record {
   list_beginning = false;
 }
 
-pub calls_made : Calls 72 (97 ∷ []) (used 5) (used 3) (Nodes 1) (1 ∷ 0 ∷ 1 ∷ 1 ∷ 255 ∷ []) (record { serializer = atom_record; answer = At 0 }) (97 ∷ 10 ∷ 255 ∷ [])
+pub calls_made : Calls 72 (97 ∷ []) (used 5) (used 3) (Ok 1) (1 ∷ 0 ∷ 1 ∷ 1 ∷ 255 ∷ []) (record { serializer = atom_record; answer = Ok 0 }) (97 ∷ 10 ∷ 255 ∷ [])
 unfolding parse_text placed_in read_node read_from read_answer read_stage turn close attach snoc filled_with finish_reading finish_in ends_at next_item next_in is_sound token_at in_beginning in_parsing between comment plain string escape wrong house_at house_style text_calls write_tree write_node written fits node_calls row_calls atoms_hold atoms_hold_all is_atom_prefix sits kind_prefix kind_of has_quote is_string ends_string ends_escaped part_of decide row ahead only guard bind size sizes children table_at tables run step pasted fresh_serializer writer.is_sound place first_atom first_list laid inner_as inner phase_after close_as writer.close last put_in put_atom begin_in begin_list end_in end_list writer.finish_in finish_writing is_atom outside inside escaped class_of is_atom_chr marks one_of within
 calls_made = record { parse = record { answer = refl; words = refl }; write = record { serializer = refl; answer = refl; buffer = refl } }

@@ -7,7 +7,8 @@ use Rattle.sise_tree.specs.Tree.{size}
 use Rattle.sise_tree.specs.Answers.{Answer, answered, refused}
 use Rattle.sise_tree.specs.ParseTree.{longest}
 use Rattle.sise_tree.specs.ParseText.{parse_text, DoesParseText}
-use Rattle.sise_tree.specs.declared.parse.ParsedTree.{ParsedTree}
+use Rattle.std.specs.Prelude.{Result}
+use Rattle.sise_tree.specs.declared.parse.TreeError.{TreeError}
 use Rattle.sise_tree_writer.specs.SerializeTree.{fits, Writes, DoesWrite}
 use Rattle.sise_tree_writer.specs.Writing.{text_calls}
 use Rattle.sise_tree_writer.specs.House.{house_style, house_at}
@@ -44,7 +45,7 @@ pub record Fits (t : ℕ) (text words buffer : List ℕ) {tree : Tree} (r : Read
 
 -- a program made the two calls, the second with the words that the first left: parse_text returned `parsed` and left `table`, the house call returned
 -- `wrote` and left `now`. Each did as its contract says
-pub record Calls (t : ℕ) (text words buffer : List ℕ) (parsed : ParsedTree) (table : List ℕ) (wrote : TreeWrote) (now : List ℕ) : Type 0 where
+pub record Calls (t : ℕ) (text words buffer : List ℕ) (parsed : Result ℕ TreeError) (table : List ℕ) (wrote : TreeWrote) (now : List ℕ) : Type 0 where
   pub parse : DoesParseText (parse_text text words) parsed table
   pub write : DoesWrite (house_at t buffer text table) wrote now
 

@@ -3,59 +3,68 @@
 use Prim.Native.Nat.{ℕ, ◌+◌, ◌≤◌, ◌<◌}
 use native.Mathlib.Nat.{add-zero}
 use native.Mathlib.Omega.{arith}
+use Rattle.std.specs.Prelude.{Result, Ok, Err}
+use Rattle.std.specs.Result.{IsErrAnd}
+use Rattle.std.proofs.lemmas.Result.{err_from_is_err_and}
 use mathlib.Core.Path.{◌≡◌, refl, sym, ap, ◌∙◌}
-use mathlib.Core.Bool.{Bool, true, false, cond}
+use mathlib.Core.Bool.{Bool, true, false}
+use mathlib.Core.Logic.{◌⊎◌, ⊎_elim}
 use mathlib.Core.List.{List, [], ◌∷◌, ◌++◌}
 use lib.ListN.{length}
 use borrow.Author.Tests.{lt-ltb, le-ltb, eq-eqb, ne_eqb}
 use Rattle.sise_util.specs.Atom.{is_atom}
 use Rattle.sise_util.proofs.Ranges.{split}
 use Rattle.sise_serializer.specs.Bytes.{pasted}
-use Rattle.sise_serializer.specs.Serializer.{Answer, refused, answer_as, DoesAs, is_sound, Style, Piece, refuse, place, Gap, new_line, nothing, space, gap_at, laid, inner, inner_as, close, close_as, put_in, put_atom, begin_in, begin_list, end_in, end_list, finish_in, finish_writing}
+use Rattle.sise_serializer.specs.Serializer.{Answer, refused, error_number, DoesAs, is_sound, Style, Piece, refuse, place, first_atom, first_list, Gap, new_line, nothing, space, gap_at, laid, inner, inner_as, close, close_as, put_in, put_atom, begin_in, begin_list, end_in, end_list, finish_in, finish_writing}
 use Rattle.sise_serializer.specs.Calls.{Call, put_atom_call, begin_list_call, end_list_call, finish_call, step}
-use Rattle.sise_serializer.specs.Parts.{Places, spot_of, in_line, gap_bytes}
+use Rattle.sise_serializer.specs.Parts.{wrote_of, Places, spot_or_full, first_item, item_in, in_line, gap_bytes}
 use Rattle.sise_serializer.specs.declared.serializer.Phase.{Phase}
+use Rattle.sise_serializer.specs.declared.serializer.Phase.TheVariants.{Beginning, Writing, Finished, Done}
+use Rattle.sise_serializer.specs.declared.serializer.Placed.{Placed}
 use Rattle.sise_serializer.specs.declared.serializer.Serializer.{Serializer}
-use Rattle.sise_serializer.specs.declared.serializer.Wrote.{Wrote}
 use Rattle.sise_serializer.specs.declared.buffer.Spot.{Spot}
-use Rattle.sise_serializer.specs.declared.buffer.Spot.TheVariants as spot
-use Rattle.sise_serializer.specs.declared.serializer.Put.{Put}
-use Rattle.sise_serializer.specs.declared.serializer.Put.TheVariants as put
+use Rattle.sise_serializer.specs.declared.serializer.WriteError.{WriteError}
 use Rattle.sise_serializer.proofs.Bytes.{pasted_none, pasted_behind}
-use Rattle.sise_serializer.proofs.Spots.{found, not_found}
+use Rattle.sise_serializer.proofs.Spots.{Found, found_ok, not_found_err}
 
 -- ---- refusals and pieces
 
 module _ (w : Serializer) (before : List ℕ) where
   -- a refusal changes nothing
-  pub refused_does : (n : ℕ) {a : Put} {x : Wrote} → x ≡ record { serializer = w; answer = a } → answer_as a ≡ refused n → DoesAs (refuse n w) w before x before
-  refused_does n g e = record { serializer = ap (λ (x : Wrote). x.serializer) g; answer = ap (λ (x : Wrote). answer_as x.answer) g ∙ e; buffer = sym (pasted_none before w.position) }
+  pub refused_does : (n : ℕ) {e : WriteError} → error_number e ≡ n → DoesAs (refuse n w) w before (wrote_of w (Err e)) before
+  refused_does n e = record { serializer = refl; answer = ap refused e; buffer = sym (pasted_none before w.position) }
 
-  module _ (b : Piece) {r : Spot} (h : r ≡ spot_of (length before) w.position (length b.layout) (length b.token)) where
+  module _ (b : Piece) {r : Result Spot WriteError} (h : r ≡ spot_or_full (length before) w.position (length b.layout) (length b.token)) where
+    -- the spot of a piece with room
+    pub spotted : {s : Spot} → r ≡ Ok s → Found (length before) w.position (length b.layout) (length b.token) s
+    spotted t = found_ok (length before) w.position (length b.layout) (length b.token) (sym h ∙ t)
+
     -- a piece with room
-    pub placed : {o e : ℕ} {v : Serializer} {now : List ℕ} → r ≡ spot.At o e
-        → (e ≡ w.position + length b.layout + length b.token → v ≡ b.after)
+    pub placed : {s : Spot} {v : Serializer} {now : List ℕ} → r ≡ Ok s
+        → (s.end ≡ w.position + length b.layout + length b.token → v ≡ b.after)
         → now ≡ pasted before w.position (b.layout ++ b.token)
-        → Places b w before (record { serializer = v; answer = put.At o }) now
+        → Places b w before (Ok (record { serializer = v; offset = s.at })) now
     unfolding place
     placed t q n =
-        let f = found (length before) w.position (length b.layout) (length b.token) (sym t ∙ h) in
+        let f = spotted t in
         rw f.test (record { serializer = q f.end; answer = ap Answer.accepted f.offset; buffer = n })
 
     -- the same, where the token was written after the layout
-    pub placed_behind : {o e : ℕ} {v : Serializer} {mid now : List ℕ} → r ≡ spot.At o e → mid ≡ pasted before w.position b.layout → now ≡ pasted mid o b.token
-        → (e ≡ w.position + length b.layout + length b.token → v ≡ b.after)
-        → Places b w before (record { serializer = v; answer = put.At o }) now
+    pub placed_behind : {s : Spot} {v : Serializer} {mid now : List ℕ} → r ≡ Ok s → mid ≡ pasted before w.position b.layout → now ≡ pasted mid s.at b.token
+        → (s.end ≡ w.position + length b.layout + length b.token → v ≡ b.after)
+        → Places b w before (Ok (record { serializer = v; offset = s.at })) now
     placed_behind t m n q =
-        let f = found (length before) w.position (length b.layout) (length b.token) (sym t ∙ h) in
+        let f = spotted t in
         placed t q (pasted_behind before w.position b.layout b.token m f.offset n (omega (arith, f.in_room)))
 
     -- a piece without room
-    pub full : {x : Wrote} → x ≡ record { serializer = w; answer = put.NoRoom } → r ≡ spot.NoRoom → Places b w before x before
+    pub full : {e : WriteError} (x : Result Placed WriteError) → r ≡ Err e → IsErrAnd x (λ d. d ≡ e) → Places b w before x before
     unfolding place
-    full g t =
-        rw (not_found (length before) w.position (length b.layout) (length b.token) (sym t ∙ h))
-        (refused_does 22 g refl)
+    full x t q =
+        let n = not_found_err (length before) w.position (length b.layout) (length b.token) (sym h ∙ t) in
+        let p = err_from_is_err_and x q in
+        rw (n.0, p.1, p.2, ← n.1)
+        (refused_does 22 refl)
 
 -- ---- an item in a list
 
@@ -104,15 +113,6 @@ module _ (s : Style) (w : Serializer) where
   unfolding close
   close_unbroken f = ap (close_as s w) (ne_eqb _ _ f)
 
--- ---- the end of the text
-
-counted_as : (b : Bool) (n : ℕ) → n + cond b 1 0 ≡ cond b (n + 1) n
-counted_as true n = refl
-counted_as false n = add-zero n
-
-pub counted : (b : Bool) (n : ℕ) {k : ℕ} → k ≡ cond b 1 0 → n + k ≡ cond b (n + 1) n
-counted b n e = ap (λ (k : ℕ). n + k) e ∙ counted_as b n
-
 -- ---- the calls, by their tests and the phase
 
 module _ (s : Style) (room : ℕ) (w : Serializer) where
@@ -133,6 +133,14 @@ module _ (s : Style) (room : ℕ) (w : Serializer) where
     unfolding step finish_writing
     finish_in_lem wished h = rw e (ap (λ (q : Phase). finish_in q s room w wished) h)
 
+    pub end_refused : (w.phase ≡ Finished) ⊎ (w.phase ≡ Done) → step s room w end_list_call ≡ refuse 19 w
+    unfolding end_in
+    end_refused = ⊎_elim end_in_lem end_in_lem
+
+    pub finish_early : (wished : Bool) → (w.phase ≡ Beginning) ⊎ (w.phase ≡ Writing) → step s room w (finish_call wished) ≡ refuse 20 w
+    unfolding finish_in
+    finish_early wished = ⊎_elim (finish_in_lem wished) (finish_in_lem wished)
+
     pub begin_in_lem : (t : ℕ) {p : Phase} → w.phase ≡ p → step s room w (begin_list_call t) ≡ begin_in p s room w t
     unfolding step begin_list
     begin_in_lem t h = rw e (ap (λ (q : Phase). begin_in q s room w t) h)
@@ -144,3 +152,46 @@ module _ (s : Style) (room : ℕ) (w : Serializer) where
     pub put_in_lem : (a : List ℕ) (t : ℕ) {p : Phase} → is_atom a ≡ true → w.phase ≡ p → step s room w (put_atom_call a t) ≡ put_in p s room w a t
     unfolding step put_atom
     put_in_lem a t f h = rw (e, f) (ap (λ (q : Phase). put_in q s room w a t) h)
+
+    -- an item is what both calls put, an atom or the start of a list
+    pub put_item : (a : List ℕ) (t : ℕ) → is_atom a ≡ true → step s room w (put_atom_call a t) ≡ item_in w.phase s room w a false t
+    unfolding item_in put_in first_item first_atom
+    put_item a t f = put_in_lem a t f refl ∙ same w.phase
+      where
+        same : (p : Phase) → put_in p s room w a t ≡ item_in p s room w a false t
+        same Beginning = refl
+        same Writing = refl
+        same Finished = refl
+        same Done = refl
+
+    pub begin_item : (t : ℕ) → step s room w (begin_list_call t) ≡ item_in w.phase s room w (40 ∷ []) true t
+    unfolding item_in begin_in first_item first_list
+    begin_item t = begin_in_lem t refl ∙ same w.phase
+      where
+        same : (p : Phase) → begin_in p s room w t ≡ item_in p s room w (40 ∷ []) true t
+        same Beginning = refl
+        same Writing = refl
+        same Finished = refl
+        same Done = refl
+
+-- ---- what an item puts, by the phase and the threshold
+
+module _ (s : Style) (room : ℕ) (w : Serializer) (token : List ℕ) (isList : Bool) (t : ℕ) where
+  item_at : {p : Phase} → w.phase ≡ p → item_in w.phase s room w token isList t ≡ item_in p s room w token isList t
+  item_at h = ap (λ (p : Phase). item_in p s room w token isList t) h
+
+  pub item_first : w.phase ≡ Beginning → item_in w.phase s room w token isList t ≡ place room w (first_item w token isList)
+  unfolding item_in
+  item_first h = item_at h
+
+  pub item_on_new_line : w.phase ≡ Writing → t ≤ w.line_len → item_in w.phase s room w token isList t ≡ place room w (inner_as s w token isList new_line)
+  unfolding item_in
+  item_on_new_line h e = item_at h ∙ ap (place room w) (new_line_is s w token isList t e)
+
+  pub item_in_line : w.phase ≡ Writing → w.line_len < t → item_in w.phase s room w token isList t ≡ place room w (in_line w token isList (gap_bytes w.list_beginning))
+  unfolding item_in
+  item_in_line h e = item_at h ∙ ap (place room w) (in_line_is s w token isList t e)
+
+  pub item_refused : (w.phase ≡ Finished) ⊎ (w.phase ≡ Done) → item_in w.phase s room w token isList t ≡ refuse 19 w
+  unfolding item_in
+  item_refused = ⊎_elim item_at item_at

@@ -1,55 +1,35 @@
 -- What is left of a list of calls while it runs: each call's words are taken from the front, and its answer's word is set at its index, so what running
 -- the rest leaves stays the same.
 -- Assumes nothing.
-use Prim.Native.Nat.{ℕ, suc, ◌+◌, ◌-◌, ◌^◌, ◌≤◌, ◌<◌}
+use Prim.Native.Nat.{ℕ, suc, ◌+◌, ◌-◌, ◌≤◌, ◌<◌}
 use native.Mathlib.Nat.{add-zero, zero-add}
 use native.Mathlib.Omega.{arith}
 use mathlib.Core.Path.{◌≡◌, refl, sym, ap, ◌∙◌, subst}
-use mathlib.Core.Bool.{Bool, true, false, ◌&&◌, not, cond}
-use mathlib.Core.Logic.{⊎_elim}
+use mathlib.Core.Bool.{Bool, true, false, ◌&&◌, cond}
 use mathlib.Core.List.{List, [], ◌∷◌, ◌++◌, map}
-use lib.Dec.{leb, eqb}
+use lib.Dec.{leb}
 use lib.ListN.{length, get_or, take, drop, set, length-drop, length-set}
 use lib.Seq.{take-nil, drop-cons, take-suc-set, drop-set-lt, append_snoc}
-use types.Run.{OneOf}
-use denote.Enum.Declared.{tag_of}
-use borrow.Author.Tests.{leb-true, leb-false, le-leb, lt-leb, eq-eqb, ne_eqb}
-use Rattle.sise_parser.specs.Reader.{part_of}
+use borrow.Author.Tests.{leb-true, leb-false, le-leb, lt-leb, ne_eqb}
 use Rattle.sise_util.proofs.Ranges.{and_first, and_second}
 use Rattle.sise_serializer.specs.Bytes.{pasted}
-use Rattle.sise_serializer.specs.Serializer.{Style, answer_as, number_of, fresh_serializer, is_sound}
+use Rattle.sise_serializer.specs.Serializer.{Style, fresh_serializer, is_sound}
 use Rattle.sise_serializer.specs.declared.calls.Ran.{Ran}
 use Rattle.sise_serializer.specs.declared.serializer.Serializer.{Serializer}
-use Rattle.sise_serializer.specs.declared.serializer.Put.{Put}
-use Rattle.sise_serializer.specs.declared.serializer.Put.TheVariants.{At, UnsoundRecord, InvalidAtom, NoListToEnd, WritingFinished, WritingNotFinished, NoRoom}
-use Rattle.sise_serializer.specs.contracts.serializer.Put as puts
 use Rattle.sise_serializer.proofs.Bytes.{pasted_none}
 use Rattle.sise_serializer.proofs.Kept.{fresh_sound, sound_kept}
-use Rattle.sise_serializer.specs.Calls.{Call, put_atom_call, begin_list_call, end_list_call, finish_call, step, Run, run}
+use Rattle.sise_serializer.specs.Calls.{Call, finish_call, step, Run, run}
 use Rattle.sise_serializer.specs.Words.{call_of, call_at, has_call, decoded, calls_of, calls_from, answer_word, Runs, RunsFrom}
 
 -- ---- the call of a kind
 
-finish_by_lem : (b : Bool) → cond b (finish_call false) (finish_call true) ≡ finish_call (not b)
-finish_by_lem true = refl
-finish_by_lem false = refl
-
 module _ (words atoms : List ℕ) (at : ℕ) where
-  pub call_atom : get_or words at 0 ≡ 0 → call_at words atoms at ≡ put_atom_call (part_of atoms (get_or words (at + 1) 0) (get_or words (at + 2) 0)) (get_or words (at + 3) 0)
-  unfolding call_of
-  call_atom e = rw (eq-eqb _ _ e)
+  pub call_kind : {kind : ℕ} → get_or words at 0 ≡ kind → call_at words atoms at ≡ call_of atoms kind (get_or words (at + 1) 0) (get_or words (at + 2) 0) (get_or words (at + 3) 0)
+  call_kind e = ap (λ (kind : ℕ). call_of atoms kind (get_or words (at + 1) 0) (get_or words (at + 2) 0) (get_or words (at + 3) 0)) e
 
-  pub call_begin : (get_or words at 0 ≡ 0 → ⊥) → get_or words at 0 ≡ 1 → call_at words atoms at ≡ begin_list_call (get_or words (at + 3) 0)
+  pub call_last : (get_or words at 0 ≡ 0 → ⊥) → (get_or words at 0 ≡ 1 → ⊥) → (get_or words at 0 ≡ 2 → ⊥) → (get_or words at 0 ≡ 3 → ⊥) → call_at words atoms at ≡ finish_call true
   unfolding call_of
-  call_begin a e = rw (ne_eqb _ _ a, eq-eqb _ _ e)
-
-  pub call_end : (get_or words at 0 ≡ 0 → ⊥) → (get_or words at 0 ≡ 1 → ⊥) → get_or words at 0 ≡ 2 → call_at words atoms at ≡ end_list_call
-  unfolding call_of
-  call_end a b e = rw (ne_eqb _ _ a, ne_eqb _ _ b, eq-eqb _ _ e)
-
-  pub call_finish : (get_or words at 0 ≡ 0 → ⊥) → (get_or words at 0 ≡ 1 → ⊥) → (get_or words at 0 ≡ 2 → ⊥) → call_at words atoms at ≡ finish_call (not (eqb (get_or words at 0) 3))
-  unfolding call_of
-  call_finish a b c = rw (ne_eqb _ _ a, ne_eqb _ _ b, ne_eqb _ _ c) (finish_by_lem (eqb (get_or words at 0) 3))
+  call_last a b c d = rw (ne_eqb _ _ a, ne_eqb _ _ b, ne_eqb _ _ c, ne_eqb _ _ d)
 
 -- ---- words
 
@@ -119,21 +99,6 @@ pasted_cons l k x xs h =
     ∙ ap (λ (q : List ℕ). take k l ++ (x ∷ []) ++ xs ++ q) (drop-set-lt (k + 1 + length xs) l k x (omega arith))
     ∙ ap (λ (p : List ℕ). p ++ drop (k + 1 + length xs) l) (append_snoc (take k l) x xs)
     ∙ ap (λ (m : ℕ). take k l ++ (x ∷ xs) ++ drop m l) n)
-
--- zero is none of some numbers from one on
-pub no_zero : (k : ℕ) (l : List ℕ) → OneOf (suc k ∷ map suc l) 0 → ⊥
-no_zero k [] e = omega arith
-no_zero k (j ∷ l) e = ⊎_elim (λ (z : 0 ≡ suc k). omega arith) (no_zero j l) e
-
--- every answer but an offset is a refusal
-pub refusal_word : (p : Put) → OneOf (1 ∷ 2 ∷ 3 ∷ 4 ∷ 5 ∷ 6 ∷ []) (tag_of puts.the_type p) → 2 ^ 32 + number_of (answer_as p) ≡ answer_word (answer_as p)
-refusal_word (At o) k = absurd (no_zero 0 (1 ∷ 2 ∷ 3 ∷ 4 ∷ 5 ∷ []) k)
-refusal_word UnsoundRecord k = refl
-refusal_word InvalidAtom k = refl
-refusal_word NoListToEnd k = refl
-refusal_word WritingFinished k = refl
-refusal_word WritingNotFinished k = refl
-refusal_word NoRoom k = refl
 
 -- ---- running
 

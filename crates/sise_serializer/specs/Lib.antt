@@ -2,5 +2,6 @@ pub mod Bytes
 pub mod Serializer
 pub mod Calls
 pub mod Parts
+pub mod Phases
 pub mod Words
 pub mod Examples

@@ -1,13 +1,15 @@
 -- What the writer answers and writes (document 01, "serializer.rs: the writer" and "Refusals", with request 2.6 of document 02).
 -- Assumes nothing.
-use Rattle.std.specs.Prelude.{ℕ, ◌+◌, ◌-◌, ◌*◌, min, ◌≡◌, Bool, true, false, ◌&&◌, cond, List, [], ◌∷◌, ◌++◌, leb, ltb, eqb, length}
+use Rattle.std.specs.Prelude.{ℕ, ◌+◌, ◌-◌, ◌*◌, min, ◌≡◌, Bool, true, false, ◌&&◌, cond, List, [], ◌∷◌, ◌++◌, leb, ltb, eqb, length, Result, Ok, Err}
 use Rattle.sise_util.specs.Atom.{is_atom}
+use Rattle.sise_parser.specs.Refusals.{Refusal, refusal}
 use Rattle.sise_serializer.specs.Bytes.{pasted, repeat}
+use Rattle.sise_serializer.specs.declared.buffer.SerializerStyle.{SerializerStyle}
 use Rattle.sise_serializer.specs.declared.serializer.Phase.{Phase}
 use Rattle.sise_serializer.specs.declared.serializer.Phase.TheVariants.{Beginning, Writing, Finished, Done}
 use Rattle.sise_serializer.specs.declared.serializer.Serializer.{Serializer}
-use Rattle.sise_serializer.specs.declared.serializer.Put.{Put}
-use Rattle.sise_serializer.specs.declared.serializer.Put.TheVariants.{At, UnsoundRecord, InvalidAtom, NoListToEnd, WritingFinished, WritingNotFinished, NoRoom}
+use Rattle.sise_serializer.specs.declared.serializer.WriteError.{WriteError}
+use Rattle.sise_serializer.specs.declared.serializer.WriteError.TheVariants.{UnsoundRecord, InvalidAtom, NoListToEnd, WritingFinished, WritingNotFinished, NoRoom}
 use Rattle.sise_serializer.specs.declared.serializer.Wrote.{Wrote}
 
 -- the two strings that the caller lends for layout
@@ -17,6 +19,10 @@ pub record Style : Type 0 where
 
 abbrev pub style : List ℕ → List ℕ → Style
 style b i = record { line_break = b; indentation = i }
+
+-- those that the code's style points to
+abbrev pub style_of : SerializerStyle → Style
+style_of s = style s.line_break.now s.indentation.now
 
 -- 22's limit
 abbrev pub limit : ℕ
@@ -73,15 +79,23 @@ pub data Answer : Type 0 where
   -- a refusal's number
   refused : ℕ → Answer
 
--- the number, or the offset, of each answer of the code
-abbrev pub answer_as : Put → Answer
-answer_as (At offset) = accepted offset
-answer_as UnsoundRecord = refused 11
-answer_as InvalidAtom = refused 17
-answer_as NoListToEnd = refused 18
-answer_as WritingFinished = refused 19
-answer_as WritingNotFinished = refused 20
-answer_as NoRoom = refused 22
+-- the number of each refusal of the code
+abbrev pub error_number : WriteError → ℕ
+error_number UnsoundRecord = 11
+error_number InvalidAtom = 17
+error_number NoListToEnd = 18
+error_number WritingFinished = 19
+error_number WritingNotFinished = 20
+error_number NoRoom = 22
+
+-- it has no place and no code point
+abbrev pub write_refusal : WriteError → Refusal
+write_refusal e = refusal (error_number e) 0 0
+
+-- the offset, or the number, of each answer of the code
+abbrev pub answer_as : Result ℕ WriteError → Answer
+answer_as (Ok offset) = accepted offset
+answer_as (Err e) = refused (error_number e)
 
 -- a refusal's number, and 0 where there is none
 abbrev pub number_of : Answer → ℕ

@@ -1,35 +1,43 @@
 // Bytes into a lent buffer: where a token goes, and layout and a token written there.
-ghost use Rattle.std.specs.Prelude.{◌≡◌, true, [], ◌∷◌, ◌++◌, ◌+◌, ◌*◌, ◌≤◌, ◌<◌, min, leb, length, get_or};
+ghost use Rattle.std.specs.Prelude.{◌≡◌, [], ◌∷◌, ◌++◌, ◌+◌, ◌*◌, ◌≤◌, leb, length, IfSome};
 ghost use Rattle.sise_serializer.specs.Bytes.{pasted, pasted_if, repeat};
 ghost use Rattle.sise_serializer.specs.Parts.{spot_of, gap_bytes, break_bytes};
+ghost use Rattle.sise_serializer.specs.Serializer.{style_of, new_line_of};
 
 // The longest text.
 pub const LIMIT: usize = 16777216;
 
-// A token's place: its first byte and its end.
+// The two strings that the caller lends for layout.
 #[derive(Clone, Copy)]
-pub enum Spot {
-    At(usize, usize),
-    NoRoom,
+pub struct SerializerStyle<'a> {
+    pub line_break: &'a [u8],
+    pub indentation: &'a [u8],
 }
 
-fn smaller(a: usize, b: usize) -> usize
-    ensures { result ≡ min a b }
-{
-    if a < b { a } else { b }
+impl<'a> SerializerStyle<'a> {
+    // What ends a text: the line break, if wished.
+    pub fn final_break(self, wished: bool) -> &'a [u8]
+        ensures { result.now ≡ break_bytes wished self.entry.line_break.now }
+    {
+        if wished { self.line_break } else { b"" }
+    }
 }
 
-// Whether `left` bytes have room for `times` strings of `size` bytes. It divides, which is slow, only where the product could pass 64 bits.
+// A token's place: its first byte and its end.
+#[derive(Clone, Copy, Debug, PartialEq, Eq)]
+pub struct Spot {
+    pub at: usize,
+    pub end: usize,
+}
+
+// Whether `left` bytes have room for `times` strings of `size` bytes.
 fn has_room(left: usize, times: usize, size: usize) -> bool
     ensures { result ≡ leb (times * size) left }
 {
-    if times <= LIMIT && size <= LIMIT {
-        return times * size <= left;
+    match times.checked_mul(size) {
+        Some(bytes) => bytes <= left,
+        None => false,
     }
-    if size == 0 {
-        return true;
-    }
-    times <= left / size
 }
 
 // The spot of a token of `token` bytes behind `lead` bytes and `times` indentations, the whole beginning at `position` in a buffer of `room` bytes.
@@ -40,30 +48,24 @@ pub fn find_spot(
     times: usize,
     indentation: usize,
     token: usize,
-) -> Spot
+) -> Option<Spot>
     ensures { result ≡ spot_of room position (lead + times * indentation) token }
 {
-    let most = smaller(room, LIMIT);
-    if most < position {
-        return Spot::NoRoom;
+    let after = room.min(LIMIT).checked_sub(position)?;
+    let behind = after.checked_sub(lead)?;
+    let left = behind.checked_sub(token)?;
+    if !has_room(left, times, indentation) {
+        return None;
     }
-    let after = most - position;
-    if after < lead {
-        return Spot::NoRoom;
-    }
-    let left = after - lead;
-    if left < token {
-        return Spot::NoRoom;
-    }
-    if has_room(left - token, times, indentation) {
-        let layout = lead + times * indentation;
-        let at = position + layout;
-        return Spot::At(at, at + token);
-    }
-    Spot::NoRoom
+    let at = position + lead + times * indentation;
+    Some(Spot {
+        at,
+        end: at + token,
+    })
 }
 
-// Copies `src` to the bytes of `buf` that begin at `at`. One byte, as most line breaks are, needs no loop.
+// Copies `src` to the bytes of `buf` that begin at `at`. One byte, as most line breaks are, needs no loop. The loop counts by hand: by copy_from_slice, which
+// was tried, a call of the writer and a tree took a fifth longer, since most atoms are short.
 pub(crate) fn copy(buf: &mut [u8], at: usize, src: &[u8])
     requires { at + length src.now ≤ length buf.old }
     ensures { buf.new ≡ pasted buf.old at src.now }
@@ -79,33 +81,15 @@ pub(crate) fn copy(buf: &mut [u8], at: usize, src: &[u8])
     }
 }
 
-// Whether `src` is one byte, once or more often, as most indentations are.
-fn is_uniform(src: &[u8]) -> bool
-    ensures { result ≡ true → (0 < length src.now) × (src.now ≡ repeat (length src.now) (get_or src.now 0 0 ∷ [])) }
+// The byte that `src` repeats, if it is one byte once or more often, as most indentations are.
+fn uniform_byte(src: &[u8]) -> Option<u8>
+    ensures { IfSome result (λ byte. src.now ≡ repeat (length src.now) (byte ∷ [])) }
 {
-    if src.len() == 0 {
-        return false;
+    let first = *src.first()?;
+    if src.iter().all(|&byte| byte == first) {
+        return Some(first);
     }
-    let mut k = 0;
-    while k < src.len() {
-        if src[k] != src[0] {
-            return false;
-        }
-        k += 1;
-    }
-    true
-}
-
-// Sets `times` bytes from `at` on to `byte`.
-fn fill(buf: &mut [u8], at: usize, times: usize, byte: u8)
-    requires { at + times ≤ length buf.old }
-    ensures { buf.new ≡ pasted buf.old at (repeat times (byte ∷ [])) }
-{
-    let mut k = 0;
-    while k < times {
-        buf[at + k] = byte;
-        k += 1;
-    }
+    None
 }
 
 // Copies `src` as many as `times` times, each behind the last, and returns where the last one ends.
@@ -114,61 +98,32 @@ fn copies(buf: &mut [u8], at: usize, times: usize, src: &[u8]) -> usize
     ensures value { result ≡ at + length (repeat times src.now) }
     ensures buf_after { buf.new ≡ pasted buf.old at (repeat times src.now) }
 {
-    if is_uniform(src) {
-        fill(buf, at, times * src.len(), src[0]);
-        return at + times * src.len();
+    let end = at + times * src.len();
+    if let Some(byte) = uniform_byte(src) {
+        buf[at..end].fill(byte);
+        return end;
     }
-    let mut k = 0;
     let mut to = at;
-    while k < times {
+    for _ in 0..times {
         copy(buf, to, src);
         to += src.len();
-        k += 1;
     }
-    to
+    end
 }
 
 // A line break and `times` indentations. Returns where they end.
 pub(crate) fn write_line(
     buf: &mut [u8],
     at: usize,
-    line_break: &[u8],
+    style: SerializerStyle<'_>,
     times: usize,
-    indentation: &[u8],
 ) -> usize
-    requires { at + length (line_break.now ++ repeat times indentation.now) ≤ length buf.old }
-    ensures value { result ≡ at + length (line_break.now ++ repeat times indentation.now) }
-    ensures buf_after { buf.new ≡ pasted buf.old at (line_break.now ++ repeat times indentation.now) }
+    requires { at + length (new_line_of (style_of style) times) ≤ length buf.old }
+    ensures value { result ≡ at + length (new_line_of (style_of style.entry) times) }
+    ensures buf_after { buf.new ≡ pasted buf.old at (new_line_of (style_of style.entry) times) }
 {
-    copy(buf, at, line_break);
-    copies(buf, at + line_break.len(), times, indentation)
-}
-
-// The space before an item that stays in its line, unless it joins what is before it.
-pub(crate) fn write_gap(buf: &mut [u8], at: usize, joins: bool)
-    requires { at + length (gap_bytes joins) ≤ length buf.old }
-    ensures { buf.new ≡ pasted buf.old at (gap_bytes joins) }
-{
-    if !joins {
-        buf[at] = 32;
-    }
-}
-
-// The bytes of the line break at the end of the text, if wished.
-pub(crate) fn break_len(line_break: &[u8], wished: bool) -> usize
-    ensures { result ≡ length (break_bytes wished line_break.now) }
-{
-    if wished { line_break.len() } else { 0 }
-}
-
-// The line break at the end of the text, if wished.
-pub(crate) fn write_break(buf: &mut [u8], at: usize, line_break: &[u8], wished: bool)
-    requires { at + length (break_bytes wished line_break.now) ≤ length buf.old }
-    ensures { buf.new ≡ pasted buf.old at (break_bytes wished line_break.now) }
-{
-    if wished {
-        copy(buf, at, line_break);
-    }
+    copy(buf, at, style.line_break);
+    copies(buf, at + style.line_break.len(), times, style.indentation)
 }
 
 // ---- for callers in other crates: bytes are copied where they have room, and nothing otherwise
@@ -186,18 +141,31 @@ pub fn paste(buf: &mut [u8], at: usize, src: &[u8])
     copy(buf, at, src);
 }
 
+// The space before an item that stays in its line, unless it joins what is before it.
+pub fn write_gap(buf: &mut [u8], at: usize, joins: bool)
+    ensures { buf.new ≡ pasted_if buf.old at (gap_bytes joins) }
+{
+    if !joins {
+        paste(buf, at, b" ");
+    }
+}
+
 // Copies a line break and `times` indentations.
-pub fn paste_line(buf: &mut [u8], at: usize, line_break: &[u8], times: usize, indentation: &[u8])
-    ensures { buf.new ≡ pasted_if buf.old at (line_break.now ++ repeat times indentation.now) }
+pub fn paste_line(buf: &mut [u8], at: usize, style: SerializerStyle<'_>, times: usize)
+    ensures { buf.new ≡ pasted_if buf.old at (new_line_of (style_of style.entry) times) }
 {
     if buf.len() < at {
         return;
     }
     let left = buf.len() - at;
-    if left < line_break.len() {
+    if left < style.line_break.len() {
         return;
     }
-    if has_room(left - line_break.len(), times, indentation.len()) {
-        write_line(buf, at, line_break, times, indentation);
+    if has_room(
+        left - style.line_break.len(),
+        times,
+        style.indentation.len(),
+    ) {
+        write_line(buf, at, style, times);
     }
 }

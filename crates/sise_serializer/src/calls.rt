@@ -1,27 +1,31 @@
 // A whole list of the writer's calls, as numbers: four words a call, and one word for each answer.
-ghost use Rattle.std.specs.Prelude.{◌≡◌, true, ◌+◌, ◌≤◌, length};
-ghost use Rattle.sise_serializer.specs.Serializer.{style, answer_as, is_sound};
-ghost use Rattle.sise_serializer.specs.Calls.{Does};
+ghost use Rattle.std.specs.Prelude.{◌≡◌, ◌+◌, ◌≤◌, length};
+ghost use Rattle.sise_serializer.specs.Serializer.{style_of, answer_as};
+ghost use Rattle.sise_serializer.specs.Parts.{Makes};
 ghost use Rattle.sise_serializer.specs.Words.{call_at, has_call, answer_word, Runs, RunsFrom};
 
-use crate::serializer::{Put, Serializer, Wrote, close_list, finish_text, open_list, write_atom};
-use sise_parser::atom_bytes;
+use crate::buffer::SerializerStyle;
+use crate::serializer::{
+    Placed, Serializer, WriteError, close_list, finish_text, open_list, write_atom,
+};
+use crate::sound_serializer::SoundSerializer;
+use sise_parser::{Refusal, atom_bytes};
 
 // The record that the last call left, and how many calls ran.
-#[derive(Clone, Copy)]
+#[derive(Clone, Copy, Debug, PartialEq, Eq)]
 pub struct Ran {
     pub serializer: Serializer,
     pub calls: usize,
 }
 
 // An answer's word: the offset, or 2 ^ 32 and the refusal's number.
-pub fn put_word(answer: Put) -> u64
+pub fn put_word(answer: Result<usize, WriteError>) -> u64
     ensures { result ≡ answer_word (answer_as answer) }
 {
-    if let Put::At(offset) = answer {
-        return offset as u64;
+    match answer {
+        Ok(offset) => offset as u64,
+        Err(error) => 4294967296 + u64::from(error.number()),
     }
-    4294967296 + answer.number() as u64
 }
 
 // Whether a call's four words stand at `at`: they do not if fewer are left, or if the kind is above 4.
@@ -37,49 +41,45 @@ pub fn has_call(words: &[u64], at: usize) -> bool
     words[at] <= 4
 }
 
-// Runs the call whose four words stand at `at`.
+// Runs the call whose four words stand at `at`. Its kind is a number, as C writes it.
 fn run_call(
-    w: Serializer,
+    w: SoundSerializer,
     words: &[u64],
     at: usize,
     atoms: &[u8],
-    line_break: &[u8],
-    indentation: &[u8],
+    style: SerializerStyle<'_>,
     buf: &mut [u8],
-) -> Wrote
-    requires { (at + 4 ≤ length words.now) × (is_sound w ≡ true) }
-    ensures { Does (call_at words.now atoms.now at) (style line_break.now indentation.now) w buf.old result buf.new }
+) -> Result<Placed, WriteError>
+    requires { at + 4 ≤ length words.now }
+    ensures { Makes (call_at words.now atoms.now at) (style_of style.entry) w.serializer buf.old result buf.new }
 {
     let kind = words[at];
     let place = words[at + 1];
     let len = words[at + 2];
     let threshold = words[at + 3];
-    if kind == 0 {
-        let atom = atom_bytes(atoms, place as usize, len as usize);
-        return write_atom(w, line_break, indentation, buf, atom, threshold);
+    match kind {
+        0 => {
+            let atom = atom_bytes(atoms, place as usize, len as usize);
+            write_atom(w, style, buf, atom, threshold)
+        }
+        1 => open_list(w, style, buf, threshold),
+        2 => close_list(w, style, buf),
+        3 => finish_text(w, style, buf, false),
+        _ => finish_text(w, style, buf, true),
     }
-    if kind == 1 {
-        return open_list(w, line_break, indentation, buf, threshold);
-    }
-    if kind == 2 {
-        return close_list(w, line_break, indentation, buf);
-    }
-    finish_text(w, line_break, indentation, buf, kind != 3)
 }
 
 // Runs the calls that the words mean from a fresh record on.
 pub fn write_calls(
     words: &[u64],
     atoms: &[u8],
-    line_break: &[u8],
-    indentation: &[u8],
+    style: SerializerStyle<'_>,
     buf: &mut [u8],
     answers: &mut [u64],
 ) -> Ran
-    ensures { Runs (style line_break.now indentation.now) words.now atoms.now buf.old answers.old result buf.new answers.new }
+    ensures { Runs (style_of style.entry) words.now atoms.now buf.old answers.old result buf.new answers.new }
 {
-    let fresh = Serializer::new();
-    write_calls_from(fresh, words, atoms, line_break, indentation, buf, answers)
+    write_calls_from(Serializer::new(), words, atoms, style, buf, answers)
 }
 
 // Runs the calls that the words mean, each with the record that the last one left, and writes the word of each answer at the call's index. Stops at a
@@ -88,12 +88,11 @@ pub fn write_calls_from(
     from: Serializer,
     words: &[u64],
     atoms: &[u8],
-    line_break: &[u8],
-    indentation: &[u8],
+    style: SerializerStyle<'_>,
     buf: &mut [u8],
     answers: &mut [u64],
 ) -> Ran
-    ensures { RunsFrom from (style line_break.now indentation.now) words.now atoms.now buf.old answers.old result buf.new answers.new }
+    ensures { RunsFrom from (style_of style.entry) words.now atoms.now buf.old answers.old result buf.new answers.new }
 {
     if !from.is_sound() {
         return Ran {
@@ -101,19 +100,23 @@ pub fn write_calls_from(
             calls: 0,
         };
     }
-    let mut w = from;
-    let mut k = 0;
+    let mut serializer = from;
     let mut at = 0;
-    while k < answers.len() && has_call(words, at) {
-        let wrote = run_call(w, words, at, atoms, line_break, indentation, buf);
-        let answer = wrote.answer;
-        answers[k] = put_word(answer);
-        w = wrote.serializer;
-        k += 1;
+    for (k, answer) in answers.iter_mut().enumerate() {
+        if !has_call(words, at) {
+            return Ran {
+                serializer,
+                calls: k,
+            };
+        }
+        let placed = run_call(SoundSerializer { serializer }, words, at, atoms, style, buf);
+        let wrote = serializer.wrote(placed);
+        *answer = put_word(wrote.answer);
+        serializer = wrote.serializer;
         at += 4;
     }
     Ran {
-        serializer: w,
-        calls: k,
+        serializer,
+        calls: answers.len(),
     }
 }

@@ -4,7 +4,12 @@
 mod buffer;
 mod calls;
 mod serializer;
+mod sound_serializer;
+mod token;
 
-pub use buffer::{LIMIT, Spot, find_spot, paste, paste_line};
+pub use buffer::{LIMIT, SerializerStyle, Spot, find_spot, paste, paste_line, write_gap};
 pub use calls::{Ran, has_call, put_word, write_calls, write_calls_from};
-pub use serializer::{Phase, Put, Serializer, Wrote, phase_after};
+pub use serializer::{
+    Phase, Serializer, UnknownPhase, WriteError, Wrote, answer_number, phase_after,
+};
+pub use sound_serializer::SoundSerializer;

@@ -1,17 +1,20 @@
 // The writer's record and its four calls. A method tests the record and goes on to the function below that wants a sound one; that one finds out whether
-// the call fits before it writes. Each arm of a `match` returns by itself: what an arm yields would be copied once more. A function with one caller becomes
-// a part of it, and then the record stays in registers: so an atom and a list have functions of their own, though they are much alike.
-ghost use Rattle.std.specs.Prelude.{◌≡◌, true, false, cond, [], ◌∷◌, ◌<◌, length};
+// the call fits before it writes.
+ghost use Rattle.std.specs.Prelude.{◌≡◌, true, false, [], ◌+◌, ◌*◌, ◌<◌, length, MatchOption};
 ghost use Rattle.sise_util.specs.Atom.{is_atom};
-ghost use Rattle.sise_serializer.specs.Serializer.{fresh_serializer, style, lists_fit, last_break, is_sound, answer_as, number_of, phase_after, first_atom, first_list, new_line, inner_as, close_as, last};
+ghost use Rattle.sise_serializer.specs.Serializer.{fresh_serializer, style, style_of, lists_fit, last_break, is_sound, write_refusal, answer_as, number_of, phase_after, new_line, inner_as, close_as, last};
 ghost use Rattle.sise_serializer.specs.Calls.{Does, put_atom_call, begin_list_call, end_list_call, finish_call};
-ghost use Rattle.sise_serializer.specs.Parts.{Small, Places, added_with, in_line, gap_bytes};
+ghost use Rattle.sise_serializer.specs.Parts.{wrote_of, Makes, Places, PutsItem, first_item, in_line, gap_bytes, spot_or_full};
+ghost use Rattle.sise_serializer.specs.Phases.{DecodesPhase};
 
-use crate::buffer::{LIMIT, Spot, break_len, copy, find_spot, write_break, write_gap, write_line};
+use crate::buffer::{LIMIT, SerializerStyle, Spot, copy, find_spot, write_gap, write_line};
+use crate::sound_serializer::SoundSerializer;
+use crate::token::{Atom, ListStart, Token};
+use sise_parser::Refusal;
 use sise_util::check_atom;
 
 // Where the writer is: before the first item, inside the outermost list, after the last item, or after an accepted finish.
-#[derive(Clone, Copy)]
+#[derive(Clone, Copy, Debug, PartialEq, Eq)]
 pub enum Phase {
     Beginning,
     Writing,
@@ -19,8 +22,28 @@ pub enum Phase {
     Done,
 }
 
+// A number that is no phase's.
+#[derive(Clone, Copy, Debug, PartialEq, Eq)]
+pub struct UnknownPhase(pub u64);
+
+impl TryFrom<u64> for Phase {
+    type Error = UnknownPhase;
+
+    ghost try_from_gives = { DecodesPhase };
+
+    fn try_from(word: u64) -> Result<Phase, UnknownPhase> {
+        match word {
+            0 => Ok(Phase::Beginning),
+            1 => Ok(Phase::Writing),
+            2 => Ok(Phase::Finished),
+            3 => Ok(Phase::Done),
+            _ => Err(UnknownPhase(word)),
+        }
+    }
+}
+
 // The writer's record, which each call takes and hands back. The two small fields come last, so that few bytes are unused.
-#[derive(Clone, Copy)]
+#[derive(Clone, Copy, Debug, PartialEq, Eq)]
 pub struct Serializer {
     pub position: usize,
     // How many lists are open, and how many of them, from the outermost, have a line break in them.
@@ -35,39 +58,54 @@ pub struct Serializer {
     pub list_beginning: bool,
 }
 
-// What a call answers: the offset of what it wrote, or a refusal.
-#[derive(Clone, Copy)]
-pub enum Put {
-    At(usize),
-    UnsoundRecord,
-    InvalidAtom,
-    NoListToEnd,
-    WritingFinished,
-    WritingNotFinished,
-    NoRoom,
+// Why a call is refused, by document 01's numbers.
+#[derive(Clone, Copy, Debug, PartialEq, Eq)]
+pub enum WriteError {
+    UnsoundRecord = 11,
+    InvalidAtom = 17,
+    NoListToEnd = 18,
+    WritingFinished = 19,
+    WritingNotFinished = 20,
+    NoRoom = 22,
 }
 
-// What a call hands back.
-#[derive(Clone, Copy)]
+// What a call hands back: the record, and the offset of what it wrote.
+#[derive(Clone, Copy, Debug, PartialEq, Eq)]
 pub struct Wrote {
     pub serializer: Serializer,
-    pub answer: Put,
+    pub answer: Result<usize, WriteError>,
 }
 
-impl Put {
-    // Document 01's number, 0 for an offset.
-    pub fn number(self) -> u32
-        ensures { result ≡ number_of (answer_as self) }
-    {
-        match self {
-            Put::At(_) => 0,
-            Put::UnsoundRecord => 11,
-            Put::InvalidAtom => 17,
-            Put::NoListToEnd => 18,
-            Put::WritingFinished => 19,
-            Put::WritingNotFinished => 20,
-            Put::NoRoom => 22,
-        }
+// What an accepted call leaves: the record after it, and the offset of what it wrote.
+#[derive(Clone, Copy)]
+pub(crate) struct Placed {
+    pub(crate) serializer: Serializer,
+    pub(crate) offset: usize,
+}
+
+impl Refusal for WriteError {
+    ghost meaning = { write_refusal };
+
+    fn number(self) -> u32 {
+        self as u32
+    }
+
+    fn place(self) -> usize {
+        0
+    }
+
+    fn code(self) -> u32 {
+        0
+    }
+}
+
+// The number of an answer's refusal, 0 for an offset.
+pub fn answer_number(answer: Result<usize, WriteError>) -> u32
+    ensures { result ≡ number_of (answer_as answer) }
+{
+    match answer {
+        Ok(_) => 0,
+        Err(error) => error.number(),
     }
 }
 
@@ -76,10 +114,8 @@ fn lists_fit(phase: Phase, lists: usize) -> bool
     ensures { result ≡ lists_fit phase lists }
 {
     match phase {
-        Phase::Beginning => lists == 0,
         Phase::Writing => 1 <= lists,
-        Phase::Finished => lists == 0,
-        Phase::Done => lists == 0,
+        Phase::Beginning | Phase::Finished | Phase::Done => lists == 0,
     }
 }
 
@@ -87,12 +123,7 @@ fn lists_fit(phase: Phase, lists: usize) -> bool
 fn last_break(phase: Phase) -> usize
     ensures { result ≡ last_break phase }
 {
-    match phase {
-        Phase::Beginning => 0,
-        Phase::Writing => 0,
-        Phase::Finished => 0,
-        Phase::Done => 1,
-    }
+    usize::from(phase == Phase::Done)
 }
 
 impl Serializer {
@@ -114,370 +145,262 @@ impl Serializer {
     }
 
     // Whether the counts lie in the bounds that every call keeps, so that no sum of a call wraps.
+    #[tactic(auto, unfolding(crate::specs::Serializer::is_sound))]
     pub fn is_sound(self) -> bool
         ensures { result ≡ is_sound self }
     {
         let position = self.position;
-        let phase = self.phase;
-        if LIMIT < position {
-            return false;
+        position <= LIMIT
+            && self.line_len <= position
+            && self.lists <= position
+            && self.broken <= self.lists
+            && lists_fit(self.phase, self.lists)
+            && self.spaces <= position
+            && self.breaks <= position + last_break(self.phase)
+            && self.indents <= position * (position + 1)
+    }
+
+    // The record with the knowledge that it is sound.
+    pub fn sound(self) -> Option<SoundSerializer>
+        ensures { MatchOption result (is_sound self ≡ false) (λ w. w.serializer ≡ self) }
+    {
+        if self.is_sound() {
+            return Some(SoundSerializer { serializer: self });
         }
-        if position < self.line_len {
-            return false;
+        None
+    }
+
+    // What a call on this record hands back. A refusal leaves the record, which is made anew field by field: to copy the whole, with the unused bytes in it, is
+    // slower.
+    pub(crate) fn wrote(self, placed: Result<Placed, WriteError>) -> Wrote
+        ensures { result ≡ wrote_of self placed }
+    {
+        match placed {
+            Ok(placed) => Wrote {
+                serializer: placed.serializer,
+                answer: Ok(placed.offset),
+            },
+            Err(error) => Wrote {
+                serializer: Serializer {
+                    position: self.position,
+                    ..self
+                },
+                answer: Err(error),
+            },
         }
-        if position < self.lists {
-            return false;
-        }
-        if self.lists < self.broken {
-            return false;
-        }
-        if !lists_fit(phase, self.lists) {
-            return false;
-        }
-        if position < self.spaces {
-            return false;
-        }
-        if position + last_break(phase) < self.breaks {
-            return false;
-        }
-        self.indents <= position * (position + 1)
     }
 
     // Puts an atom. In a list it goes on a new line if the line is at least `break_line_at` bytes long.
     pub fn put_atom(
         self,
-        line_break: &[u8],
-        indentation: &[u8],
+        style: SerializerStyle<'_>,
         buf: &mut [u8],
         atom: &[u8],
         break_line_at: u64,
     ) -> Wrote
-        ensures { Does (put_atom_call atom.now break_line_at) (style line_break.now indentation.now) self buf.old result buf.new }
+        ensures { Does (put_atom_call atom.now break_line_at) (style_of style.entry) self buf.old result buf.new }
     {
-        if !self.is_sound() {
-            return refused(self, Put::UnsoundRecord);
-        }
-        write_atom(self, line_break, indentation, buf, atom, break_line_at)
+        let Some(w) = self.sound() else {
+            return self.wrote(Err(WriteError::UnsoundRecord));
+        };
+        self.wrote(write_atom(w, style, buf, atom, break_line_at))
     }
 
     // Begins a list. Inside another it goes on a new line if the line is at least `break_line_at` bytes long.
-    pub fn begin_list(
-        self,
-        line_break: &[u8],
-        indentation: &[u8],
-        buf: &mut [u8],
-        break_line_at: u64,
-    ) -> Wrote
-        ensures { Does (begin_list_call break_line_at) (style line_break.now indentation.now) self buf.old result buf.new }
+    pub fn begin_list(self, style: SerializerStyle<'_>, buf: &mut [u8], break_line_at: u64) -> Wrote
+        ensures { Does (begin_list_call break_line_at) (style_of style.entry) self buf.old result buf.new }
     {
-        if !self.is_sound() {
-            return refused(self, Put::UnsoundRecord);
-        }
-        open_list(self, line_break, indentation, buf, break_line_at)
+        let Some(w) = self.sound() else {
+            return self.wrote(Err(WriteError::UnsoundRecord));
+        };
+        self.wrote(open_list(w, style, buf, break_line_at))
     }
 
     // Ends the innermost list that is open.
-    pub fn end_list(self, line_break: &[u8], indentation: &[u8], buf: &mut [u8]) -> Wrote
-        ensures { Does end_list_call (style line_break.now indentation.now) self buf.old result buf.new }
+    pub fn end_list(self, style: SerializerStyle<'_>, buf: &mut [u8]) -> Wrote
+        ensures { Does end_list_call (style_of style.entry) self buf.old result buf.new }
     {
-        if !self.is_sound() {
-            return refused(self, Put::UnsoundRecord);
-        }
-        close_list(self, line_break, indentation, buf)
+        let Some(w) = self.sound() else {
+            return self.wrote(Err(WriteError::UnsoundRecord));
+        };
+        self.wrote(close_list(w, style, buf))
     }
 
     // Finishes the text. Only after that is it whole.
     pub fn finish(
         self,
-        line_break: &[u8],
-        indentation: &[u8],
+        style: SerializerStyle<'_>,
         buf: &mut [u8],
         insert_line_break: bool,
     ) -> Wrote
-        ensures { Does (finish_call insert_line_break) (style line_break.now indentation.now) self buf.old result buf.new }
+        ensures { Does (finish_call insert_line_break) (style_of style.entry) self buf.old result buf.new }
     {
-        if !self.is_sound() {
-            return refused(self, Put::UnsoundRecord);
-        }
-        finish_text(self, line_break, indentation, buf, insert_line_break)
+        let Some(w) = self.sound() else {
+            return self.wrote(Err(WriteError::UnsoundRecord));
+        };
+        self.wrote(finish_text(w, style, buf, insert_line_break))
     }
 }
 
-// A refusal leaves the record. It is made anew field by field: to copy the whole, with the unused bytes in it, is slower.
-fn refused(w: Serializer, answer: Put) -> Wrote
-    ensures { result ≡ record { serializer = w; answer = answer } }
-{
-    let phase = w.phase;
-    Wrote {
-        serializer: Serializer {
-            position: w.position,
-            lists: w.lists,
-            broken: w.broken,
-            line_len: w.line_len,
-            spaces: w.spaces,
-            breaks: w.breaks,
-            indents: w.indents,
-            phase,
-            list_beginning: w.list_beginning,
-        },
-        answer,
-    }
-}
-
-// The record behind an item in a list.
-fn added(
-    lists: usize,
-    broken: usize,
-    position: usize,
-    line_len: usize,
-    spaces: usize,
-    breaks: usize,
-    indents: usize,
-    list_beginning: bool,
-) -> Serializer
-    ensures { result ≡ added_with lists broken position line_len spaces breaks indents list_beginning }
-{
-    Serializer {
-        position,
-        lists,
-        broken,
-        line_len,
-        spaces,
-        breaks,
-        indents,
-        phase: Phase::Writing,
-        list_beginning,
-    }
-}
-
-// How many spaces stand before an item that stays in its line.
-fn spaces_before(list_beginning: bool) -> usize
-    ensures { result ≡ length (gap_bytes list_beginning) }
-{
-    if list_beginning { 0 } else { 1 }
-}
-
-// ---- put_atom
+// ---- put_atom and begin_list
 
 // "Putting an atom needs only whether it is no."
 fn is_atom(atom: &[u8]) -> bool
     ensures { result ≡ is_atom atom.now }
 {
-    let kind = check_atom(atom);
-    kind.is_atom()
+    check_atom(atom).is_some()
 }
 
 pub(crate) fn write_atom(
-    w: Serializer,
-    line_break: &[u8],
-    indentation: &[u8],
+    w: SoundSerializer,
+    style: SerializerStyle<'_>,
     buf: &mut [u8],
     atom: &[u8],
     break_line_at: u64,
-) -> Wrote
-    requires { is_sound w ≡ true }
-    ensures { Does (put_atom_call atom.now break_line_at) (style line_break.now indentation.now) w buf.old result buf.new }
+) -> Result<Placed, WriteError>
+    ensures { Makes (put_atom_call atom.now break_line_at) (style_of style.entry) w.serializer buf.old result buf.new }
 {
     if !is_atom(atom) {
-        return refused(w, Put::InvalidAtom);
+        return Err(WriteError::InvalidAtom);
     }
-    let phase = w.phase;
-    match phase {
-        Phase::Beginning => return first_atom(w, buf, atom),
-        Phase::Writing => {
-            if break_line_at <= w.line_len as u64 {
-                return atom_on_new_line(w, line_break, indentation, buf, atom);
-            }
-            return atom_in_line(w, buf, atom);
-        }
-        Phase::Finished => return refused(w, Put::WritingFinished),
-        Phase::Done => return refused(w, Put::WritingFinished),
-    }
+    write_item(w, style, buf, Atom(atom), break_line_at)
 }
-
-fn first_atom(w: Serializer, buf: &mut [u8], atom: &[u8]) -> Wrote
-    ensures { Places (first_atom w atom.now) w buf.old result buf.new }
-{
-    match find_spot(w.position, buf.len(), 0, 0, 0, atom.len()) {
-        Spot::At(at, end) => {
-            copy(buf, at, atom);
-            return Wrote {
-                serializer: Serializer {
-                    position: end,
-                    lists: 0,
-                    broken: 0,
-                    line_len: w.line_len,
-                    spaces: w.spaces,
-                    breaks: w.breaks,
-                    indents: w.indents,
-                    phase: Phase::Finished,
-                    list_beginning: w.list_beginning,
-                },
-                answer: Put::At(at),
-            };
-        }
-        Spot::NoRoom => return refused(w, Put::NoRoom),
-    }
-}
-
-// On a new line. Every open list has a break in it from then on.
-fn atom_on_new_line(
-    w: Serializer,
-    line_break: &[u8],
-    indentation: &[u8],
-    buf: &mut [u8],
-    atom: &[u8],
-) -> Wrote
-    requires { Small w }
-    ensures { Places (inner_as (style line_break.now indentation.now) w atom.now false new_line) w buf.old result buf.new }
-{
-    let position = w.position;
-    let lists = w.lists;
-    let size = indentation.len();
-    match find_spot(
-        position,
-        buf.len(),
-        line_break.len(),
-        lists,
-        size,
-        atom.len(),
-    ) {
-        Spot::At(at, end) => {
-            write_line(buf, position, line_break, lists, indentation);
-            copy(buf, at, atom);
-            let line = lists * size + atom.len();
-            let spaces = w.spaces;
-            let breaks = w.breaks + 1;
-            let indents = w.indents + lists;
-            return Wrote {
-                serializer: added(lists, lists, end, line, spaces, breaks, indents, false),
-                answer: Put::At(at),
-            };
-        }
-        Spot::NoRoom => return refused(w, Put::NoRoom),
-    }
-}
-
-// In the same line, behind a space unless it is the first of its list.
-fn atom_in_line(w: Serializer, buf: &mut [u8], atom: &[u8]) -> Wrote
-    requires { Small w }
-    ensures { Places (in_line w atom.now false (gap_bytes w.list_beginning)) w buf.old result buf.new }
-{
-    let position = w.position;
-    let lead = spaces_before(w.list_beginning);
-    match find_spot(position, buf.len(), lead, 0, 0, atom.len()) {
-        Spot::At(at, end) => {
-            write_gap(buf, position, w.list_beginning);
-            copy(buf, at, atom);
-            let line = w.line_len + lead + atom.len();
-            let spaces = w.spaces + lead;
-            let lists = w.lists;
-            let broken = w.broken;
-            let breaks = w.breaks;
-            let indents = w.indents;
-            return Wrote {
-                serializer: added(lists, broken, end, line, spaces, breaks, indents, false),
-                answer: Put::At(at),
-            };
-        }
-        Spot::NoRoom => return refused(w, Put::NoRoom),
-    }
-}
-
-// ---- begin_list
 
 pub(crate) fn open_list(
-    w: Serializer,
-    line_break: &[u8],
-    indentation: &[u8],
+    w: SoundSerializer,
+    style: SerializerStyle<'_>,
     buf: &mut [u8],
     break_line_at: u64,
-) -> Wrote
-    requires { is_sound w ≡ true }
-    ensures { Does (begin_list_call break_line_at) (style line_break.now indentation.now) w buf.old result buf.new }
+) -> Result<Placed, WriteError>
+    ensures { Makes (begin_list_call break_line_at) (style_of style.entry) w.serializer buf.old result buf.new }
 {
-    let phase = w.phase;
-    match phase {
-        Phase::Beginning => return first_list(w, buf),
+    write_item(w, style, buf, ListStart, break_line_at)
+}
+
+// An item goes to the start of the text, or into the list that is open.
+fn write_item<T: Token>(
+    w: SoundSerializer,
+    style: SerializerStyle<'_>,
+    buf: &mut [u8],
+    token: T,
+    break_line_at: u64,
+) -> Result<Placed, WriteError>
+    ensures { PutsItem (style_of style.entry) w.serializer (T.bytes token) T.is_list break_line_at buf.old result buf.new }
+{
+    match w.serializer.phase {
+        Phase::Beginning => first(w, buf, token),
         Phase::Writing => {
-            if break_line_at <= w.line_len as u64 {
-                return list_on_new_line(w, line_break, indentation, buf);
+            if break_line_at <= w.serializer.line_len as u64 {
+                return on_new_line(w, style, buf, token);
             }
-            return list_in_line(w, buf);
+            in_line(w, buf, token)
         }
-        Phase::Finished => return refused(w, Put::WritingFinished),
-        Phase::Done => return refused(w, Put::WritingFinished),
+        Phase::Finished | Phase::Done => Err(WriteError::WritingFinished),
     }
 }
 
-fn first_list(w: Serializer, buf: &mut [u8]) -> Wrote
-    ensures { Places (first_list w) w buf.old result buf.new }
+// The first item. After an atom the text has no other.
+fn first<T: Token>(w: SoundSerializer, buf: &mut [u8], token: T) -> Result<Placed, WriteError>
+    ensures { Places (first_item w.serializer (T.bytes token) T.is_list) w.serializer buf.old result buf.new }
 {
-    match find_spot(w.position, buf.len(), 0, 0, 0, 1) {
-        Spot::At(at, end) => {
-            buf[at] = 40;
-            let spaces = w.spaces;
-            let breaks = w.breaks;
-            let indents = w.indents;
-            return Wrote {
-                serializer: added(1, 0, end, 1, spaces, breaks, indents, true),
-                answer: Put::At(at),
-            };
+    let w = w.serializer;
+    let len = token.len();
+    let spot = find(w, buf, 0, 0, 0, len)?;
+    token.put(buf, spot.at);
+    let serializer = if token.is_list() {
+        Serializer {
+            position: spot.end,
+            lists: 1,
+            broken: 0,
+            line_len: len,
+            phase: Phase::Writing,
+            list_beginning: true,
+            ..w
         }
-        Spot::NoRoom => return refused(w, Put::NoRoom),
-    }
+    } else {
+        Serializer {
+            position: spot.end,
+            lists: 0,
+            broken: 0,
+            phase: Phase::Finished,
+            ..w
+        }
+    };
+    Ok(Placed {
+        serializer,
+        offset: spot.at,
+    })
 }
 
-// On a new line. Every list that is open has a break in it from then on, but not the new one.
-fn list_on_new_line(w: Serializer, line_break: &[u8], indentation: &[u8], buf: &mut [u8]) -> Wrote
-    requires { Small w }
-    ensures { Places (inner_as (style line_break.now indentation.now) w (40 ∷ []) true new_line) w buf.old result buf.new }
+// On a new line. Every list that is open has a break in it from then on, but not one that the item begins.
+fn on_new_line<T: Token>(
+    w: SoundSerializer,
+    style: SerializerStyle<'_>,
+    buf: &mut [u8],
+    token: T,
+) -> Result<Placed, WriteError>
+    ensures { Places (inner_as (style_of style.entry) w.serializer (T.bytes token) T.is_list new_line) w.serializer buf.old result buf.new }
 {
-    let position = w.position;
-    let lists = w.lists;
-    let size = indentation.len();
-    match find_spot(position, buf.len(), line_break.len(), lists, size, 1) {
-        Spot::At(at, end) => {
-            write_line(buf, position, line_break, lists, indentation);
-            buf[at] = 40;
-            let line = lists * size + 1;
-            let spaces = w.spaces;
-            let breaks = w.breaks + 1;
-            let indents = w.indents + lists;
-            let open = lists + 1;
-            return Wrote {
-                serializer: added(open, lists, end, line, spaces, breaks, indents, true),
-                answer: Put::At(at),
-            };
-        }
-        Spot::NoRoom => return refused(w, Put::NoRoom),
-    }
+    let w = w.serializer;
+    let size = style.indentation.len();
+    let len = token.len();
+    let spot = find(w, buf, style.line_break.len(), w.lists, size, len)?;
+    write_line(buf, w.position, style, w.lists);
+    token.put(buf, spot.at);
+    let serializer = Serializer {
+        position: spot.end,
+        lists: w.lists + usize::from(token.is_list()),
+        broken: w.lists,
+        line_len: w.lists * size + len,
+        breaks: w.breaks + 1,
+        indents: w.indents + w.lists,
+        phase: Phase::Writing,
+        list_beginning: token.is_list(),
+        ..w
+    };
+    Ok(Placed {
+        serializer,
+        offset: spot.at,
+    })
 }
 
 // In the same line, behind a space unless it is the first of its list.
-fn list_in_line(w: Serializer, buf: &mut [u8]) -> Wrote
-    requires { Small w }
-    ensures { Places (in_line w (40 ∷ []) true (gap_bytes w.list_beginning)) w buf.old result buf.new }
+fn in_line<T: Token>(w: SoundSerializer, buf: &mut [u8], token: T) -> Result<Placed, WriteError>
+    ensures { Places (in_line w.serializer (T.bytes token) T.is_list (gap_bytes w.serializer.list_beginning)) w.serializer buf.old result buf.new }
 {
-    let position = w.position;
-    let lead = spaces_before(w.list_beginning);
-    match find_spot(position, buf.len(), lead, 0, 0, 1) {
-        Spot::At(at, end) => {
-            write_gap(buf, position, w.list_beginning);
-            buf[at] = 40;
-            let line = w.line_len + lead + 1;
-            let spaces = w.spaces + lead;
-            let open = w.lists + 1;
-            let broken = w.broken;
-            let breaks = w.breaks;
-            let indents = w.indents;
-            return Wrote {
-                serializer: added(open, broken, end, line, spaces, breaks, indents, true),
-                answer: Put::At(at),
-            };
-        }
-        Spot::NoRoom => return refused(w, Put::NoRoom),
-    }
+    let w = w.serializer;
+    let lead = usize::from(!w.list_beginning);
+    let len = token.len();
+    let spot = find(w, buf, lead, 0, 0, len)?;
+    write_gap(buf, w.position, w.list_beginning);
+    token.put(buf, spot.at);
+    let serializer = Serializer {
+        position: spot.end,
+        lists: w.lists + usize::from(token.is_list()),
+        line_len: w.line_len + lead + len,
+        spaces: w.spaces + lead,
+        phase: Phase::Writing,
+        list_beginning: token.is_list(),
+        ..w
+    };
+    Ok(Placed {
+        serializer,
+        offset: spot.at,
+    })
+}
+
+// The spot of a token behind its layout, from the writer's position on.
+fn find(
+    w: Serializer,
+    buf: &[u8],
+    lead: usize,
+    times: usize,
+    size: usize,
+    token: usize,
+) -> Result<Spot, WriteError>
+    ensures { result ≡ spot_or_full (length buf.now) w.position (lead + times * size) token }
+{
+    find_spot(w.position, buf.len(), lead, times, size, token).ok_or(WriteError::NoRoom)
 }
 
 // ---- end_list
@@ -494,147 +417,119 @@ pub fn phase_after(lists: usize) -> Phase
 }
 
 pub(crate) fn close_list(
-    w: Serializer,
-    line_break: &[u8],
-    indentation: &[u8],
+    w: SoundSerializer,
+    style: SerializerStyle<'_>,
     buf: &mut [u8],
-) -> Wrote
-    requires { is_sound w ≡ true }
-    ensures { Does end_list_call (style line_break.now indentation.now) w buf.old result buf.new }
+) -> Result<Placed, WriteError>
+    ensures { Makes end_list_call (style_of style.entry) w.serializer buf.old result buf.new }
 {
-    let phase = w.phase;
-    match phase {
-        Phase::Beginning => return refused(w, Put::NoListToEnd),
+    match w.serializer.phase {
+        Phase::Beginning => Err(WriteError::NoListToEnd),
         Phase::Writing => {
-            if w.broken == w.lists {
-                return close_on_new_line(w, line_break, indentation, buf);
+            if w.serializer.broken == w.serializer.lists {
+                return close_on_new_line(w, style, buf);
             }
-            return close_in_line(w, buf);
+            close_in_line(w, buf)
         }
-        Phase::Finished => return refused(w, Put::WritingFinished),
-        Phase::Done => return refused(w, Put::WritingFinished),
+        Phase::Finished | Phase::Done => Err(WriteError::WritingFinished),
     }
 }
 
 // A `)` on a line of its own, since a break is in its list. Then one is in every open list, and stays in those left.
-fn close_on_new_line(w: Serializer, line_break: &[u8], indentation: &[u8], buf: &mut [u8]) -> Wrote
-    requires { (Small w × (0 < w.lists)) × (w.broken ≡ w.lists) }
-    ensures { Places (close_as (style line_break.now indentation.now) w true) w buf.old result buf.new }
+fn close_on_new_line(
+    w: SoundSerializer,
+    style: SerializerStyle<'_>,
+    buf: &mut [u8],
+) -> Result<Placed, WriteError>
+    requires open { 0 < w.serializer.lists }
+    requires broken { w.serializer.broken ≡ w.serializer.lists }
+    ensures { Places (close_as (style_of style.entry) w.serializer true) w.serializer buf.old result buf.new }
 {
-    let position = w.position;
+    let w = w.serializer;
     let left = w.lists - 1;
-    let size = indentation.len();
-    match find_spot(position, buf.len(), line_break.len(), left, size, 1) {
-        Spot::At(at, end) => {
-            write_line(buf, position, line_break, left, indentation);
-            buf[at] = 41;
-            let line_len = left * size + 1;
-            let breaks = w.breaks + 1;
-            let indents = w.indents + left;
-            return Wrote {
-                serializer: Serializer {
-                    position: end,
-                    lists: left,
-                    broken: left,
-                    line_len,
-                    spaces: w.spaces,
-                    breaks,
-                    indents,
-                    phase: phase_after(left),
-                    list_beginning: false,
-                },
-                answer: Put::At(at),
-            };
-        }
-        Spot::NoRoom => return refused(w, Put::NoRoom),
-    }
+    let size = style.indentation.len();
+    let spot = find(w, buf, style.line_break.len(), left, size, 1)?;
+    write_line(buf, w.position, style, left);
+    buf[spot.at] = b')';
+    let serializer = Serializer {
+        position: spot.end,
+        lists: left,
+        broken: left,
+        line_len: left * size + 1,
+        breaks: w.breaks + 1,
+        indents: w.indents + left,
+        phase: phase_after(left),
+        list_beginning: false,
+        ..w
+    };
+    Ok(Placed {
+        serializer,
+        offset: spot.at,
+    })
 }
 
 // A `)` in the same line.
-fn close_in_line(w: Serializer, buf: &mut [u8]) -> Wrote
-    requires { Small w × (w.broken < w.lists) }
-    ensures { Places (close_as (style [] []) w false) w buf.old result buf.new }
+fn close_in_line(w: SoundSerializer, buf: &mut [u8]) -> Result<Placed, WriteError>
+    requires { w.serializer.broken < w.serializer.lists }
+    ensures { Places (close_as (style [] []) w.serializer false) w.serializer buf.old result buf.new }
 {
-    let position = w.position;
+    let w = w.serializer;
     let left = w.lists - 1;
-    match find_spot(position, buf.len(), 0, 0, 0, 1) {
-        Spot::At(at, end) => {
-            buf[at] = 41;
-            let line_len = w.line_len + 1;
-            return Wrote {
-                serializer: Serializer {
-                    position: end,
-                    lists: left,
-                    broken: w.broken,
-                    line_len,
-                    spaces: w.spaces,
-                    breaks: w.breaks,
-                    indents: w.indents,
-                    phase: phase_after(left),
-                    list_beginning: false,
-                },
-                answer: Put::At(at),
-            };
-        }
-        Spot::NoRoom => return refused(w, Put::NoRoom),
-    }
+    let spot = find(w, buf, 0, 0, 0, 1)?;
+    buf[spot.at] = b')';
+    let serializer = Serializer {
+        position: spot.end,
+        lists: left,
+        line_len: w.line_len + 1,
+        phase: phase_after(left),
+        list_beginning: false,
+        ..w
+    };
+    Ok(Placed {
+        serializer,
+        offset: spot.at,
+    })
 }
 
 // ---- finish
 
-// `indentation` is unused: every call takes the same.
+// The indentation is unused: every call takes the same style.
 pub(crate) fn finish_text(
-    w: Serializer,
-    line_break: &[u8],
-    indentation: &[u8],
+    w: SoundSerializer,
+    style: SerializerStyle<'_>,
     buf: &mut [u8],
     insert_line_break: bool,
-) -> Wrote
-    requires { is_sound w ≡ true }
-    ensures { Does (finish_call insert_line_break) (style line_break.now indentation.now) w buf.old result buf.new }
+) -> Result<Placed, WriteError>
+    ensures { Makes (finish_call insert_line_break) (style_of style.entry) w.serializer buf.old result buf.new }
 {
-    let phase = w.phase;
-    match phase {
-        Phase::Beginning => return refused(w, Put::WritingNotFinished),
-        Phase::Writing => return refused(w, Put::WritingNotFinished),
-        Phase::Finished => return last(w, line_break, buf, insert_line_break),
-        Phase::Done => return refused(w, Put::WritingFinished),
+    match w.serializer.phase {
+        Phase::Beginning | Phase::Writing => Err(WriteError::WritingNotFinished),
+        Phase::Finished => last(w, style, buf, insert_line_break),
+        Phase::Done => Err(WriteError::WritingFinished),
     }
-}
-
-// How many line breaks finish writes.
-fn one_if(wished: bool) -> usize
-    ensures { result ≡ cond wished 1 0 }
-{
-    if wished { 1 } else { 0 }
 }
 
 // The end of the text, with a line break if wished.
-fn last(w: Serializer, line_break: &[u8], buf: &mut [u8], insert_line_break: bool) -> Wrote
-    requires { Small w }
-    ensures { Places (last (style line_break.now []) w insert_line_break) w buf.old result buf.new }
+fn last(
+    w: SoundSerializer,
+    style: SerializerStyle<'_>,
+    buf: &mut [u8],
+    insert_line_break: bool,
+) -> Result<Placed, WriteError>
+    ensures { Places (last (style_of style.entry) w.serializer insert_line_break) w.serializer buf.old result buf.new }
 {
-    let position = w.position;
-    let lead = break_len(line_break, insert_line_break);
-    match find_spot(position, buf.len(), lead, 0, 0, 0) {
-        Spot::At(at, end) => {
-            write_break(buf, position, line_break, insert_line_break);
-            let breaks = w.breaks + one_if(insert_line_break);
-            return Wrote {
-                serializer: Serializer {
-                    position: end,
-                    lists: w.lists,
-                    broken: w.broken,
-                    line_len: w.line_len,
-                    spaces: w.spaces,
-                    breaks,
-                    indents: w.indents,
-                    phase: Phase::Done,
-                    list_beginning: w.list_beginning,
-                },
-                answer: Put::At(at),
-            };
-        }
-        Spot::NoRoom => return refused(w, Put::NoRoom),
-    }
+    let w = w.serializer;
+    let line_break = style.final_break(insert_line_break);
+    let spot = find(w, buf, line_break.len(), 0, 0, 0)?;
+    copy(buf, w.position, line_break);
+    let serializer = Serializer {
+        position: spot.end,
+        breaks: w.breaks + usize::from(insert_line_break),
+        phase: Phase::Done,
+        ..w
+    };
+    Ok(Placed {
+        serializer,
+        offset: spot.at,
+    })
 }

@@ -1,10 +1,11 @@
 -- What a node says of what a table holds, by the tests of the code; and the whole by its nodes.
 -- Assumes nothing.
+use Rattle.std.specs.Prelude.{is_some, Option, Some, None}
 use Prim.Native.Nat.{ℕ, ◌+◌, ◌/◌, ◌≤◌, ◌<◌}
 use native.Mathlib.Omega.{arith}
 use mathlib.Core.Path.{◌≡◌, refl, sym, ap, ◌∙◌}
 use mathlib.Core.Bool.{Bool, true, false, ◌&&◌, cond, false≢true}
-use mathlib.Core.Option.{Option, none, some}
+use mathlib.Core.Option.{Option as Maybe, none, some}
 use mathlib.Core.Logic.{⊎_elim}
 use mathlib.Core.List.{List, [], ◌∷◌}
 use types.Run.{OneOf}
@@ -12,14 +13,14 @@ use denote.Enum.Declared.{tag_of}
 use lib.Dec.{ltb}
 use lib.ListN.{length, drop}
 use borrow.Author.Tests.{le-leb, lt-leb, eq-eqb, ne_eqb, ltb-true, ltb-false}
-use Rattle.sise_util.specs.Atom.{kind_number, is_kind, kind_prefix}
+use Rattle.sise_util.specs.Atom.{kind_number, kind_prefix}
 use Rattle.sise_util.specs.declared.util.AtomKind.{AtomKind}
-use Rattle.sise_util.specs.declared.util.AtomKind.TheVariants.{Plain, String, Mixed, No}
+use Rattle.sise_util.specs.declared.util.AtomKind.TheVariants.{Plain, String, Mixed}
 use Rattle.sise_util.proofs.Ranges.{split, and_first, and_second}
 use Rattle.sise_util.proofs.KindLaws.{kind_prefix_lem}
 use Rattle.sise_tree.specs.Tree.{Node, atoms_hold, kind, first, second, span, fits_kind, sits, fills_in, good, HoldsTree}
 use Rattle.sise_tree.specs.Parts.{good_in, atom_holds_at}
-use Rattle.sise_tree.specs.Decision.{decide, is_some}
+use Rattle.sise_tree.specs.Decision.{decide, is_some as decided}
 use Rattle.sise_tree.specs.Held.{held_if, held_as, is_tree}
 use Rattle.sise_tree.specs.declared.tree.Held.{Held}
 use Rattle.sise_tree.specs.declared.tree.Held.TheVariants.{Tree, NoAtom, NotATree}
@@ -31,35 +32,35 @@ use Rattle.sise_tree.proofs.AtomsHold.{tree_all, tree_fails}
 -- ---- an atom's first word, by its kind's number
 
 module _ (k : ℕ) where
-  pub kind_same : (a : AtomKind) {n : ℕ} → n ≡ kind_number a → (n ≡ 0 → ⊥) → k ≡ n → Tree ≡ held_if (fits_kind a k) (is_kind a)
-  kind_same Plain e z q = rw (eq-eqb k 1 (q ∙ e))
-  kind_same String e z q = rw (eq-eqb k 2 (q ∙ e))
-  kind_same Mixed e z q = rw (eq-eqb k 3 (q ∙ e))
-  kind_same No e z q = absurd (z e)
+  pub kind_same : (a : Option AtomKind) {n : ℕ} → n ≡ kind_number a → (n ≡ 0 → ⊥) → k ≡ n → Tree ≡ held_if (fits_kind a k) (is_some a)
+  kind_same (Some Plain) e z q = rw (eq-eqb k 1 (q ∙ e))
+  kind_same (Some String) e z q = rw (eq-eqb k 2 (q ∙ e))
+  kind_same (Some Mixed) e z q = rw (eq-eqb k 3 (q ∙ e))
+  kind_same None e z q = absurd (z e)
 
-  pub kind_other : (a : AtomKind) {n : ℕ} → n ≡ kind_number a → (n ≡ 0 → ⊥) → (k ≡ n → ⊥) → NotATree ≡ held_if (fits_kind a k) (is_kind a)
-  kind_other Plain e z q = rw (ne_eqb k 1 (λ (y : k ≡ 1). q (y ∙ sym e)))
-  kind_other String e z q = rw (ne_eqb k 2 (λ (y : k ≡ 2). q (y ∙ sym e)))
-  kind_other Mixed e z q = rw (ne_eqb k 3 (λ (y : k ≡ 3). q (y ∙ sym e)))
-  kind_other No e z q = absurd (z e)
+  pub kind_other : (a : Option AtomKind) {n : ℕ} → n ≡ kind_number a → (n ≡ 0 → ⊥) → (k ≡ n → ⊥) → NotATree ≡ held_if (fits_kind a k) (is_some a)
+  kind_other (Some Plain) e z q = rw (ne_eqb k 1 (λ (y : k ≡ 1). q (y ∙ sym e)))
+  kind_other (Some String) e z q = rw (ne_eqb k 2 (λ (y : k ≡ 2). q (y ∙ sym e)))
+  kind_other (Some Mixed) e z q = rw (ne_eqb k 3 (λ (y : k ≡ 3). q (y ∙ sym e)))
+  kind_other None e z q = absurd (z e)
 
-  pub none_zero : (a : AtomKind) {n : ℕ} → n ≡ kind_number a → n ≡ 0 → k ≡ 0 → NotATree ≡ held_if (fits_kind a k) (is_kind a)
-  none_zero Plain e z q = absurd (omega arith)
-  none_zero String e z q = absurd (omega arith)
-  none_zero Mixed e z q = absurd (omega arith)
-  none_zero No e z q = rw (lt-leb 1 k (omega arith))
+  pub none_zero : (a : Option AtomKind) {n : ℕ} → n ≡ kind_number a → n ≡ 0 → k ≡ 0 → NotATree ≡ held_if (fits_kind a k) (is_some a)
+  none_zero (Some Plain) e z q = absurd (omega arith)
+  none_zero (Some String) e z q = absurd (omega arith)
+  none_zero (Some Mixed) e z q = absurd (omega arith)
+  none_zero None e z q = rw (lt-leb 1 k (omega arith))
 
-  pub none_large : (a : AtomKind) {n : ℕ} → n ≡ kind_number a → n ≡ 0 → (k ≡ 0 → ⊥) → 3 < k → NotATree ≡ held_if (fits_kind a k) (is_kind a)
-  none_large Plain e z f q = absurd (omega arith)
-  none_large String e z f q = absurd (omega arith)
-  none_large Mixed e z f q = absurd (omega arith)
-  none_large No e z f q = rw (le-leb 1 k (omega arith), lt-leb k 3 q)
+  pub none_large : (a : Option AtomKind) {n : ℕ} → n ≡ kind_number a → n ≡ 0 → (k ≡ 0 → ⊥) → 3 < k → NotATree ≡ held_if (fits_kind a k) (is_some a)
+  none_large (Some Plain) e z f q = absurd (omega arith)
+  none_large (Some String) e z f q = absurd (omega arith)
+  none_large (Some Mixed) e z f q = absurd (omega arith)
+  none_large None e z f q = rw (le-leb 1 k (omega arith), lt-leb k 3 q)
 
-  pub none_fits : (a : AtomKind) {n : ℕ} → n ≡ kind_number a → n ≡ 0 → (k ≡ 0 → ⊥) → k ≤ 3 → NoAtom ≡ held_if (fits_kind a k) (is_kind a)
-  none_fits Plain e z f q = absurd (omega arith)
-  none_fits String e z f q = absurd (omega arith)
-  none_fits Mixed e z f q = absurd (omega arith)
-  none_fits No e z f q = rw (le-leb 1 k (omega arith), le-leb k 3 q)
+  pub none_fits : (a : Option AtomKind) {n : ℕ} → n ≡ kind_number a → n ≡ 0 → (k ≡ 0 → ⊥) → k ≤ 3 → NoAtom ≡ held_if (fits_kind a k) (is_some a)
+  none_fits (Some Plain) e z f q = absurd (omega arith)
+  none_fits (Some String) e z f q = absurd (omega arith)
+  none_fits (Some Mixed) e z f q = absurd (omega arith)
+  none_fits None e z f q = rw (le-leb 1 k (omega arith), le-leb k 3 q)
 
 -- ---- the first node
 
@@ -86,7 +87,7 @@ module _ (text words : List ℕ) where
         unfolding sits
         held_past h = rw (good_atom text words 0 within ex ey es k one, lt-leb (x + y) (length text) h)
 
-        pub held_atom : x + y ≤ length text → held_if (fits_kind (kind_prefix (drop x text) y) (kind words 0)) (is_kind (kind_prefix (drop x text) y)) ≡ here
+        pub held_atom : x + y ≤ length text → held_if (fits_kind (kind_prefix (drop x text) y) (kind words 0)) (is_some (kind_prefix (drop x text) y)) ≡ here
         unfolding sits atom_holds_at
         held_atom h = rw (good_atom text words 0 within ex ey es k one, le-leb (x + y) (length text) h, ne_eqb (kind words 0) 0 k, ← ex, ← ey, kind_prefix_lem (drop x text) y)
 
@@ -133,10 +134,10 @@ module _ {text words : List ℕ} {i : ℕ} {all : Bool} (p : Passed text words i
 
 module _ {text words : List ℕ} where
   pub held_none : (HoldsTree text words → ⊥) → NotATree ≡ held_as text (decide text words)
-  unfolding is_some
+  unfolding decided
   held_none f = of (decide text words) (local.unsound_refuses text words f)
     where
-      of : (d : Option Node) → is_some d ≡ false → NotATree ≡ held_as text d
+      of : (d : Maybe Node) → decided d ≡ false → NotATree ≡ held_as text d
       of none e = refl
       of (some n) e = absurd (false≢true (sym e))
 
@@ -153,13 +154,13 @@ module _ {text words : List ℕ} where
         rw (d, tree_fails text words d k (omega arith) z)
 
 -- a tree or none, for a path
-pub some_held : (text : List ℕ) (d : Option Node) {h : Held} → h ≡ held_as text d → (h ≡ NotATree → ⊥) → is_some d ≡ true
-unfolding is_some
+pub some_held : (text : List ℕ) (d : Maybe Node) {h : Held} → h ≡ held_as text d → (h ≡ NotATree → ⊥) → decided d ≡ true
+unfolding decided
 some_held text none e f = absurd (f e)
 some_held text (some n) e f = refl
 
-pub none_held : (text : List ℕ) (d : Option Node) {h : Held} → h ≡ held_as text d → h ≡ NotATree → is_some d ≡ false
-unfolding is_some
+pub none_held : (text : List ℕ) (d : Maybe Node) {h : Held} → h ≡ held_as text d → h ≡ NotATree → decided d ≡ false
+unfolding decided
 none_held text none e z = refl
 none_held text (some n) {h} e z = of (atoms_hold text n) e
   where
@@ -167,11 +168,8 @@ none_held text (some n) {h} e z = of (atoms_hold text n) e
     of true q = let y : Tree ≡ NotATree = sym q ∙ z in let x : ◌≡◌ {A = ℕ} 0 1 = cc in absurd (omega arith)
     of false q = let y : NoAtom ≡ NotATree = sym q ∙ z in let x : ◌≡◌ {A = ℕ} 0 1 = cc in absurd (omega arith)
 
-pub not_none : (h : Held) → OneOf (0 ∷ 1 ∷ []) (tag_of held.the_type h) → h ≡ NotATree → ⊥
-not_none h k e = ⊎_elim (λ (z : 2 ≡ 0). omega arith) (λ (z : 2 ≡ 1). omega arith) (rw e at k)
-
 -- what the answer says of the tree
-pub tree_held : (text : List ℕ) (d : Option Node) {h : Held} → h ≡ held_as text d → h ≡ Tree → (n : Node) × (d ≡ some n) × (atoms_hold text n ≡ true)
+pub tree_held : (text : List ℕ) (d : Maybe Node) {h : Held} → h ≡ held_as text d → h ≡ Tree → (n : Node) × (d ≡ some n) × (atoms_hold text n ≡ true)
 tree_held text none {h} e z = let y : NotATree ≡ Tree = sym e ∙ z in let x : ◌≡◌ {A = ℕ} 0 1 = cc in absurd (omega arith)
 tree_held text (some n) {h} e z = (n, refl, of (atoms_hold text n) e)
   where
@@ -179,7 +177,7 @@ tree_held text (some n) {h} e z = (n, refl, of (atoms_hold text n) e)
     of true q = refl
     of false q = let y : NoAtom ≡ Tree = sym q ∙ z in let x : ◌≡◌ {A = ℕ} 0 1 = cc in absurd (omega arith)
 
-pub flawed_held : (text : List ℕ) (d : Option Node) {h : Held} → h ≡ held_as text d → h ≡ NoAtom → (n : Node) × (d ≡ some n) × (atoms_hold text n ≡ false)
+pub flawed_held : (text : List ℕ) (d : Maybe Node) {h : Held} → h ≡ held_as text d → h ≡ NoAtom → (n : Node) × (d ≡ some n) × (atoms_hold text n ≡ false)
 flawed_held text none {h} e z = let y : NotATree ≡ NoAtom = sym e ∙ z in let x : ◌≡◌ {A = ℕ} 0 1 = cc in absurd (omega arith)
 flawed_held text (some n) {h} e z = (n, refl, of (atoms_hold text n) e)
   where

@@ -12,9 +12,8 @@ pub mod FindLaws
 pub mod FindTree
 pub mod FindReads
 pub mod ReadSteps
-pub mod PlainItems
-pub mod PlainKinds
 pub mod ParseSteps
+pub mod PlainKinds
 pub mod FillingLaws
 pub mod FillingParts
 pub mod Counting
@@ -22,7 +21,6 @@ pub mod FillingTurns
 pub mod Descent
 pub mod ParseLaws
 pub mod FillingLoop
-pub mod FillingPlain
 pub mod ParseCases
 pub mod Lossless
 pub mod TextLimit

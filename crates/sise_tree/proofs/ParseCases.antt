@@ -3,22 +3,18 @@
 use Prim.Native.Nat.{ℕ, ◌/◌, ◌≤◌, ◌<◌}
 use mathlib.Core.Path.{◌≡◌, refl, sym, ap, ◌∙◌, subst}
 use mathlib.Core.Bool.{Bool, true, false, cond, false≢true}
-use mathlib.Core.List.{List, [], ◌∷◌}
+use mathlib.Core.List.{List}
 use lib.Dec.{leb}
 use lib.ListN.{length}
 use borrow.Author.Tests.{lt-ltb, le-ltb, le-leb, lt-leb}
-use types.Run.{OneOf}
-use denote.Enum.Declared.{tag_of}
-use mathlib.Core.Logic.{⊎_elim}
-use native.Mathlib.Omega.{arith}
-use Rattle.sise_tree.specs.contracts.parse.ParsedTree as answer
 use Rattle.sise_parser.specs.declared.reader.Reader.{Reader}
 use Rattle.sise_tree.specs.Tree.{Node, size}
 use Rattle.sise_tree.specs.Answers.{Answer, answered, refused, refused_with, parsed_as}
 use Rattle.sise_tree.specs.ParseTree.{longest, ReadNode, got, stopped, read_node, filled_with, Parses, parsed, parse_tree, DoesParse}
 use Rattle.sise_tree.specs.Filling.{counted, reader_of, DoesCount, CanFill, DoesFill}
-use Rattle.sise_tree.specs.declared.parse.ParsedTree.{ParsedTree}
-use Rattle.sise_tree.specs.declared.parse.ParsedTree.TheVariants.{Nodes, Refused, UnexpectedListEnd, TextTooLong, TableFull}
+use Rattle.std.specs.Prelude.{Result, Ok, Err}
+use Rattle.sise_tree.specs.declared.parse.TreeError.{TreeError}
+use Rattle.sise_tree.specs.declared.parse.TreeError.TheVariants.{TextTooLong, TableFull}
 use Rattle.sise_tree.specs.declared.parse.TreeRead.{TreeRead}
 
 abbrev pub is_answered : Answer → Bool
@@ -29,17 +25,13 @@ abbrev number_in : Answer → ℕ
 number_in (answered n) = n
 number_in (refused e) = 0
 
--- an answer that is not the first case's
-pub not_nodes : (a : ParsedTree) → OneOf (1 ∷ 2 ∷ 3 ∷ 4 ∷ []) (tag_of answer.the_type a) → is_answered (parsed_as a) ≡ false
-not_nodes (Nodes n) h =
-    absurd (⊎_elim (λ (e : 0 ≡ 1). omega arith) (⊎_elim (λ (e : 0 ≡ 2). omega arith) (⊎_elim (λ (e : 0 ≡ 3). omega arith) (λ (e : 0 ≡ 4). omega arith))) h)
-not_nodes (Refused e) h = refl
-not_nodes (UnexpectedListEnd p) h = refl
-not_nodes TextTooLong h = refl
-not_nodes TableFull h = refl
+-- an answer that is no number of nodes
+pub not_nodes : (a : Result ℕ TreeError) → ((n : ℕ) → a ≡ Ok n → ⊥) → is_answered (parsed_as a) ≡ false
+not_nodes (Ok n) h = absurd (h n refl)
+not_nodes (Err e) h = refl
 
 module _ (text : List ℕ) (r : Reader) (words : List ℕ) where
-  pub parse_long : longest < length text → DoesParse (parse_tree text r words) (record { reader = r; answer = TextTooLong }) words
+  pub parse_long : longest < length text → DoesParse (parse_tree text r words) (record { reader = r; answer = Err TextTooLong }) words
   unfolding parse_tree
   parse_long h =
       let z = ap (λ (b : Bool). cond b (record { reader = r; answer = refused_with 13; words = words }) (parsed r words (read_node text r))) (lt-ltb longest (length text) h) in
@@ -54,7 +46,7 @@ module _ (text : List ℕ) (r : Reader) (words : List ℕ) where
         d
 
     -- a node was counted
-    module _ {x : TreeRead} {k : ℕ} (d : DoesCount (read_node text r) x) (a : x.answer ≡ Nodes k) where
+    module _ {x : TreeRead} {k : ℕ} (d : DoesCount (read_node text r) x) (a : x.answer ≡ Ok k) where
       pub was_got : {C : Type 0} → ((n : Node) → read_node text r ≡ got n x.reader → k ≡ size n → C) → C
       was_got {C} j = go (read_node text r) refl
         where
@@ -76,7 +68,7 @@ module _ (text : List ℕ) (r : Reader) (words : List ℕ) where
           h)
 
       -- more than the table has
-      pub parse_full : length words / 4 < k → DoesParse (parse_tree text r words) (record { reader = r; answer = TableFull }) words
+      pub parse_full : length words / 4 < k → DoesParse (parse_tree text r words) (record { reader = r; answer = Err TableFull }) words
       parse_full u =
           was_got λ n e z.
           by words e (lt-leb (size n) (length words / 4) (subst (λ (m : ℕ). length words / 4 < m) z u)) (record { reader = refl; answer = refl; words = refl })
@@ -92,7 +84,7 @@ module _ (text : List ℕ) (r : Reader) (words : List ℕ) where
             (record { reader = refl; answer = ap parsed_as a ∙ ap answered z; words = f n x.reader e })
 
     -- none was
-    pub parse_stopped : {x : TreeRead} → DoesCount (read_node text r) x → OneOf (1 ∷ 2 ∷ 3 ∷ 4 ∷ []) (tag_of answer.the_type x.answer) → DoesParse (parse_tree text r words) x words
+    pub parse_stopped : {x : TreeRead} → DoesCount (read_node text r) x → ((n : ℕ) → x.answer ≡ Ok n → ⊥) → DoesParse (parse_tree text r words) x words
     unfolding parsed
     parse_stopped {x} d s = short_parses (go (read_node text r) refl)
       where

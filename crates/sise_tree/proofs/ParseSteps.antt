@@ -1,27 +1,18 @@
--- Where the reading of a node stands, and how an item takes it on; a plain token is the item that the reader would give.
+-- Where the reading of a node stands, and how an item takes it on.
 -- Assumes nothing.
-use Prim.Native.Nat.{ℕ, ◌+◌, ◌-◌, ◌≤◌}
+use Prim.Native.Nat.{ℕ, ◌+◌}
 use native.Mathlib.Omega.{arith}
 use mathlib.Core.Path.{◌≡◌, refl, sym, ap, ◌∙◌}
 use mathlib.Core.Bool.{Bool, true, false, false≢true}
 use mathlib.Core.List.{List}
-use mathlib.Core.Logic.{◌⊎◌, inl, inr}
-use lib.Dec.{eqb}
-use lib.ListN.{length, drop}
-use borrow.Author.Tests.{eqb-true, eqb-false}
-use Rattle.sise_util.proofs.Ranges.{split}
-use Rattle.sise_parser.specs.Lexer.{found, opening, closing, atom, between}
-use Rattle.sise_parser.specs.Reader.{reader, item, next, next_item}
-use Rattle.sise_parser.specs.declared.reader.Phase.{Phase}
+use Rattle.sise_parser.specs.Reader.{item, next, next_item}
 use Rattle.sise_parser.specs.declared.reader.Reader.{Reader}
 use Rattle.sise_parser.specs.declared.reader.ParsedItem.{ParsedItem}
 use Rattle.sise_parser.specs.declared.reader.ParsedItem.TheVariants.{Atom, ListStart, ListEnd}
-use Rattle.sise_parser.proofs.Calls.{sound_parts}
 use Rattle.sise_tree.specs.Tree.{Node, list}
 use Rattle.sise_tree.specs.Tree as tree
 use Rattle.sise_tree.specs.ParseTree.{Frames, top, ◌▹◌, Stage, inside, whole, closes, attach, close, turn, read_stage, read_node}
-use Rattle.sise_tree.specs.Filling.{opened, Stands, reader_at}
-use Rattle.sise_tree.proofs.PlainItems as items
+use Rattle.sise_tree.specs.Filling.{opened, Stands}
 use Rattle.sise_tree.proofs.ReadSteps.{Took, took, read_on, read_item}
 
 -- what an item makes of the number of open lists, the reader's and the node's
@@ -90,35 +81,3 @@ module _ (text : List ℕ) (r₀ : Reader) where
         let k = took text r e in
         let l = both_open i (opened f) (opened g) r.lists q.lists r₀.lists (node_opens text f i t) (reader_opens i k) (h.listed ∙ ap (λ (d : ℕ). r₀.lists + d) h.deep) in
         record { reads = turned t; deep = z; listed = l ∙ ap (λ (d : ℕ). r₀.lists + d) (sym z); sound = λ d. k.stays }
-
--- a plain token at p, in a list
-module _ (text : List ℕ) (r₀ : Reader) {h : Phase} {f : Frames} {p depth : ℕ} (v : Stands text r₀ f (reader_at r₀ p h depth) depth) (some : depth ≡ 0 → ⊥) where
-  some_open : r₀.lists + depth ≡ 0 → ⊥
-  some_open z = some (omega arith)
-
-  pub depth_within : depth ≤ p
-  depth_within = omega (arith, (sound_parts (length text) (reader_at r₀ p h depth) (v.sound some)).opened)
-
-  pub plain_atom : {k s q : ℕ} → between (drop p text) p ≡ found (atom k) s q → next_item text (reader_at r₀ p h depth) ≡ next (reader_at r₀ q h depth) (item (Atom s k))
-  plain_atom t = items.plain_atom text h p _ (v.sound some) some_open t
-
-  pub plain_start : {s q : ℕ} → between (drop p text) p ≡ found opening s q → next_item text (reader_at r₀ p h depth) ≡ next (reader_at r₀ q h (depth + 1)) (item (ListStart s))
-  plain_start t = items.plain_start text h p _ (v.sound some) some_open t (omega arith)
-
-  pub plain_end :
-      {s q : ℕ} → between (drop p text) p ≡ found closing s q → (depth ≡ 1 → ⊥)
-      → next_item text (reader_at r₀ p h depth) ≡ next (reader_at r₀ q h (depth - 1)) (item (ListEnd s))
-  plain_end t more = items.plain_end text h p _ (v.sound some) some_open t (λ z. more (omega (arith, some))) (omega (arith, some))
-
--- so many lists are no more than the first ones, or than the text has bytes
-pub lists_within :
-    (text : List ℕ) (r₀ : Reader) {h : Phase} {f : Frames} {p depth : ℕ} → Stands text r₀ f (reader_at r₀ p h depth) depth
-    → (r₀.lists + depth ≡ r₀.lists) ⊎ (r₀.lists + depth ≤ length text)
-lists_within text r₀ {h} {p = p} {depth} v =
-    split (eqb depth 0) (λ t. let z = eqb-true depth 0 t in inl (omega arith)) (λ t.
-    let k = sound_parts (length text) (reader_at r₀ p h depth) (v.sound (eqb-false depth 0 t)) in
-    inr (omega (arith, k.within, k.opened)))
-
--- the record by its parts
-pub stands_at : (text : List ℕ) (r₀ : Reader) {f : Frames} {r : Reader} {depth : ℕ} → Stands text r₀ f r depth → r ≡ reader_at r₀ r.position r.phase depth
-stands_at text r₀ {r = r} v = ap (reader r.position r.phase) v.listed

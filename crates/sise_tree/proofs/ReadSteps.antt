@@ -3,7 +3,7 @@
 -- Assumes nothing.
 use Prim.Native.Nat.{ℕ, zero, suc, ◌+◌, ◌≤◌, ◌<◌}
 use native.Mathlib.Omega.{arith}
-use mathlib.Core.Path.{◌≡◌, refl, sym, ap, ap₂, ◌∙◌, subst}
+use mathlib.Core.Path.{◌≡◌, refl, sym, ap, ◌∙◌, subst}
 use mathlib.Core.Bool.{Bool, true, false, false≢true}
 use mathlib.Core.List.{List}
 use lib.Dec.{eqb}
@@ -13,7 +13,8 @@ use Rattle.sise_parser.specs.Refusals.{Refusal}
 use Rattle.sise_parser.specs.Lexer.{Lexed, found, bad, eof, opening, closing, atom, between}
 use Rattle.sise_parser.specs.Reader.{lists_fit, is_sound, Answer, item, refused, Next, next, closed, token_at, in_beginning, in_parsing, next_item}
 use Rattle.sise_parser.specs.Meaning.{answer_as, next_as}
-use Rattle.sise_parser.specs.declared.reader.Answer.{Answer as ReaderAnswer}
+use Rattle.std.specs.Prelude.{Result}
+use Rattle.sise_parser.specs.declared.error.ParseError.{ParseError}
 use Rattle.sise_parser.specs.declared.reader.Next.{Next as ReaderNext}
 use Rattle.sise_parser.specs.declared.reader.Phase.{Phase}
 use Rattle.sise_parser.specs.declared.reader.Phase.TheVariants.{Beginning, Parsing, Finishing}
@@ -179,8 +180,8 @@ unfolding read_from read_answer
 read_refused text r f e = ap (λ (x : Next). read_answer text (read_from (length text) text x.reader) x.reader f x.answer) e
 
 -- what the code's call says, where its answer is known
-pub called : (x : ReaderNext) {a : ReaderAnswer} {q : Reader} {y : Next} → next_as x ≡ y → q ≡ x.reader → x.answer ≡ a → y ≡ next q (answer_as a)
-called x e z d = sym e ∙ ap₂ (λ (q : Reader) (b : ReaderAnswer). next q (answer_as b)) (sym z) d
+pub called : (x : ReaderNext) {a : Result ParsedItem ParseError} {y : Next} → next_as x ≡ y → x.answer ≡ a → y ≡ next x.reader (answer_as a)
+called x e d = sym e ∙ ap (λ (b : Result ParsedItem ParseError). next x.reader (answer_as b)) d
 
 -- ---- a reading that comes to a node
 

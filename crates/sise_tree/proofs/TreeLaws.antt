@@ -1,5 +1,6 @@
 -- How long a table is, and that words hold a tree exactly if they are its table, at any distance from a parent, and any words after it.
 -- Assumes nothing.
+use Rattle.std.specs.Prelude.{is_some, Option, Some, None}
 use Prim.Native.Nat.{ℕ, ◌+◌, ◌*◌, ◌≤◌}
 use native.Mathlib.Omega.{arith}
 use mathlib.Core.Path.{◌≡◌, refl, sym, ap, ◌∙◌}
@@ -9,9 +10,9 @@ use lib.ListN.{length, take, drop, length-append, length-take, length-drop, take
 use lib.Seq.{take-append_seam}
 use lib.Dec.{leb}
 use borrow.Author.Tests.{eqb-true, leb-true, le-leb}
-use Rattle.sise_util.specs.Atom.{Atom, kind_number, is_kind, kind_prefix, is_atom_prefix}
+use Rattle.sise_util.specs.Atom.{Atom, kind_number, kind_prefix, is_atom_prefix}
 use Rattle.sise_util.specs.declared.util.AtomKind.{AtomKind}
-use Rattle.sise_util.specs.declared.util.AtomKind.TheVariants.{Plain, String, Mixed, No}
+use Rattle.sise_util.specs.declared.util.AtomKind.TheVariants.{Plain, String, Mixed}
 use Rattle.sise_util.proofs.Ranges.{and_first, and_second, both}
 use Rattle.sise_util.proofs.AtomLaws.{atom_test}
 use Rattle.sise_util.proofs.KindLaws.{kind_prefix_lem}
@@ -27,18 +28,18 @@ pub sits_kind : (text : List ℕ) (k p n : ℕ) → sits text k p n ≡ true →
 unfolding sits
 sits_kind text k p n h z = of (kind_prefix (drop p text) n) (and_second (leb (p + n) (length text)) _ h)
   where
-    of : (a : AtomKind) → fits_kind a k ≡ true → ⊥
-    of Plain e = omega (arith, eqb-true k 1 e, z)
-    of String e = omega (arith, eqb-true k 2 e, z)
-    of Mixed e = omega (arith, eqb-true k 3 e, z)
-    of No e = omega (arith, leb-true 1 k (and_first (leb 1 k) (leb k 3) e), z)
+    of : (a : Option AtomKind) → fits_kind a k ≡ true → ⊥
+    of (Some Plain) e = omega (arith, eqb-true k 1 e, z)
+    of (Some String) e = omega (arith, eqb-true k 2 e, z)
+    of (Some Mixed) e = omega (arith, eqb-true k 3 e, z)
+    of None e = omega (arith, leb-true 1 k (and_first (leb 1 k) (leb k 3) e), z)
 
 -- the kind of an atom is its own
-fits_own : (a : AtomKind) → is_kind a ≡ true → fits_kind a (kind_number a) ≡ true
-fits_own Plain e = refl
-fits_own String e = refl
-fits_own Mixed e = refl
-fits_own No e = absurd (false≢true e)
+fits_own : (a : Option AtomKind) → is_some a ≡ true → fits_kind a (kind_number a) ≡ true
+fits_own (Some Plain) e = refl
+fits_own (Some String) e = refl
+fits_own (Some Mixed) e = refl
+fits_own None e = absurd (false≢true e)
 
 pub own_kind : (text : List ℕ) (p n : ℕ) → p + n ≤ length text → Atom (take n (drop p text)) → sits text (kind_at text p n) p n ≡ true
 unfolding sits is_atom_prefix

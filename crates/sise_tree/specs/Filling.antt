@@ -2,7 +2,6 @@
 -- Assumes nothing.
 use Rattle.std.specs.Prelude.{ℕ, suc, ◌+◌, ◌-◌, ◌*◌, ◌/◌, ◌^◌, ◌≤◌, ◌<◌, ◌≡◌, true, List, [], ◌∷◌, ◌++◌, length, take, drop}
 use Rattle.sise_parser.specs.Reader as reader
-use Rattle.sise_parser.specs.declared.reader.Phase.{Phase}
 use Rattle.sise_parser.specs.declared.reader.Reader.{Reader}
 use Rattle.sise_parser.specs.declared.reader.ParsedItem.{ParsedItem}
 use Rattle.sise_parser.specs.declared.reader.ParsedItem.TheVariants.{Atom, ListStart, ListEnd}
@@ -10,9 +9,7 @@ use Rattle.sise_tree.specs.Tree.{Node, list, Nodes, size, sizes, children, kind_
 use Rattle.sise_tree.specs.Answers.{Answer, answered, refused, parsed_as}
 use Rattle.sise_tree.specs.ParseTree.{longest, Frames, top, ◌▹◌, Stage, inside, whole, closes, attach, turn, ReadNode, got, stopped, read_from, read_node, filled_with}
 use Rattle.sise_tree.specs.declared.parse.TreeRead.{TreeRead}
-use Rattle.sise_tree.specs.declared.parse.Counted.{Counted}
 use Rattle.sise_tree.specs.declared.parse.Mark.{Mark}
-use Rattle.sise_tree.specs.declared.parse.Filled.{Filled}
 
 -- ---- counting
 
@@ -24,11 +21,6 @@ counted (stopped e q) = refused e
 abbrev pub reader_of : ReadNode → Reader
 reader_of (got n q) = q
 reader_of (stopped e q) = q
-
--- what a reading of so many nodes comes to by its last call's answer
-abbrev pub settled_as : reader.Answer → ℕ → Answer
-settled_as (reader.Answer.item i) n = answered n
-settled_as (reader.Answer.refused e) n = refused e
 
 pub record DoesCount (d : ReadNode) (r : TreeRead) : Type 0 where
   pub reader : r.reader ≡ reader_of d
@@ -55,17 +47,6 @@ pub record Counts (text : List ℕ) (r₀ : Reader) (f : Frames) (r : Reader) (d
   pub stands : Stands text r₀ f r depth
   pub many : nodes ≡ filled f
   pub early : nodes ≤ r.position
-
--- a record with so many lists more than r₀
-abbrev pub reader_at : Reader → ℕ → Phase → ℕ → Reader
-reader_at r₀ p h depth = reader.reader p h (r₀.lists + depth)
-
--- what was counted before is counted on
-abbrev pub CountsAt : List ℕ → Reader → Phase → Frames → Counted → Type 0
-CountsAt text r₀ h f c = Counts text r₀ f (reader_at r₀ c.position h c.depth) c.depth c.nodes
-
-abbrev pub CountsOn : List ℕ → Counted → Counted → Type 0
-CountsOn text before c = (r₀ : Reader) (h : Phase) (f : Frames) → CountsAt text r₀ h f before → (g : Frames) × CountsAt text r₀ h g c
 
 -- ---- filling
 
@@ -193,18 +174,3 @@ pub record Fills (text w₀ : List ℕ) (r₀ : Reader) (f : Frames) (r : Reader
   pub stands : Stands text r₀ f r depth
   pub shows : Shows w₀ (inside f) words m
   pub same : length words ≡ length w₀
-
--- a filling of a node that is known
-pub record Filling (text w₀ : List ℕ) (r₀ : Reader) (n : Node) (q : Reader) (h : Phase) (f : Frames) (words : List ℕ) (c : Filled) : Type 0 where
-  pub known : Fillable text r₀ w₀ n q
-  pub some : c.depth ≡ 0 → ⊥
-  pub fills : Fills text w₀ r₀ f (reader_at r₀ c.position h c.depth) c.depth words (mark c.next c.parent)
-
-abbrev pub CanFillOn : List ℕ → List ℕ → Filled → Type 0
-CanFillOn text words c =
-    (w₀ : List ℕ) × (r₀ : Reader) × (n : Node) × (q : Reader) × (h : Phase) × (f : Frames) × Filling text w₀ r₀ n q h f words c
-
-abbrev pub FillsOn : List ℕ → List ℕ → Filled → Filled → List ℕ → Type 0
-FillsOn text words before c now =
-    (w₀ : List ℕ) (r₀ : Reader) (n : Node) (q : Reader) (h : Phase) (f : Frames)
-    → Filling text w₀ r₀ n q h f words before → (g : Frames) × Filling text w₀ r₀ n q h g now c

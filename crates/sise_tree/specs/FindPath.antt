@@ -1,11 +1,11 @@
 -- What find_path answers (document 02, 2.8).
 -- Assumes nothing.
-use Rattle.std.specs.Prelude.{ℕ, zero, suc, ◌+◌, ◌/◌, ◌≡◌, Bool, cond, ◌&&◌, List, [], ◌∷◌, ltb, eqb, length}
+use Rattle.std.specs.Prelude.{ℕ, Result, Ok, Err, zero, suc, ◌+◌, ◌/◌, ◌≡◌, Bool, cond, ◌&&◌, List, [], ◌∷◌, ltb, eqb, length}
 use Rattle.sise_tree.specs.Tree.{kind, first, span}
 use Rattle.sise_tree.specs.ParseTree.{longest}
-use Rattle.sise_tree.specs.Answers.{Answer, answered}
+use Rattle.sise_tree.specs.Answers.{Answer, answered, path_refusal}
 use Rattle.sise_tree.specs.declared.find.Found.{Found}
-use Rattle.sise_tree.specs.declared.find.Found.TheVariants.{Node, TextTooLong, NotATree, NoSuchNode}
+use Rattle.sise_tree.specs.declared.tree.PathError.{PathError}
 
 -- the way of a lookup: the nodes looked at, one after the other, up to the node that is found or to the refusal
 pub data Way : Type 0 where
@@ -71,11 +71,9 @@ pub record SameNode (words others : List ℕ) (i : ℕ) : Type 0 where
   pub spans : span words i ≡ span others i
 
 -- the numbers and values of each case
-abbrev pub found_as : Found → Lookup
-found_as (Node i n) = found i n
-found_as TextTooLong = refused 13
-found_as NotATree = refused 15
-found_as NoSuchNode = refused 16
+abbrev pub found_as : Result Found PathError → Lookup
+found_as (Ok f) = found f.index f.seen
+found_as (Err e) = refused (path_refusal e).number
 
 -- a refusal's number, 0 for a node
 abbrev pub found_number : Lookup → ℕ

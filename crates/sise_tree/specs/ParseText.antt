@@ -1,11 +1,11 @@
 -- What parse_text answers and writes: a whole text, which is a node and the end (document 01, "Trees" and "Refusals").
 -- Assumes nothing.
-use Rattle.std.specs.Prelude.{ℕ, ◌/◌, ◌≡◌, cond, List, leb, ltb, length}
+use Rattle.std.specs.Prelude.{ℕ, ◌/◌, ◌≡◌, Result, cond, List, leb, ltb, length}
 use Rattle.sise_parser.specs.Reader.{fresh_reader, Ending, ended, not_ended, finish_reading}
 use Rattle.sise_tree.specs.Tree.{Node, size}
 use Rattle.sise_tree.specs.Answers.{Answer, answered, refused, refused_with, parsed_as}
 use Rattle.sise_tree.specs.ParseTree.{longest, ReadNode, got, stopped, read_node, filled_with}
-use Rattle.sise_tree.specs.declared.parse.ParsedTree.{ParsedTree}
+use Rattle.sise_tree.specs.declared.parse.TreeError.{TreeError}
 
 -- what parse_text leaves: its answer, and the table's words
 pub record ParsesText : Type 0 where
@@ -33,6 +33,6 @@ unfoldable pub parse_text : List ℕ → List ℕ → ParsesText
 parse_text text words = cond (ltb longest (length text)) (parses (refused_with 13) words) (text_read text words (read_node text fresh_reader))
 
 -- what a call promises, that ended with the result r and the words `now`: it does as d says
-pub record DoesParseText (d : ParsesText) (r : ParsedTree) (now : List ℕ) : Type 0 where
+pub record DoesParseText (d : ParsesText) (r : Result ℕ TreeError) (now : List ℕ) : Type 0 where
   pub answer : parsed_as r ≡ d.answer
   pub words : now ≡ d.words

@@ -1,7 +1,7 @@
 -- Trees and their tables (document 01, "Trees", and 02, 2.3 and 2.6).
 -- Assumes nothing.
-use Rattle.std.specs.Prelude.{ℕ, ◌+◌, ◌-◌, ◌*◌, ◌/◌, ◌≤◌, ◌<◌, zero, suc, ◌≡◌, Bool, true, ◌&&◌, cond, List, [], ◌∷◌, ◌++◌, leb, ltb, eqb, length, take, drop, get_or}
-use Rattle.sise_util.specs.Atom.{kind_number, is_kind, kind_prefix, is_atom_prefix}
+use Rattle.std.specs.Prelude.{ℕ, ◌+◌, ◌-◌, ◌*◌, ◌/◌, ◌≤◌, ◌<◌, zero, suc, ◌≡◌, Bool, true, ◌&&◌, cond, List, [], ◌∷◌, ◌++◌, leb, ltb, eqb, length, take, drop, get_or, is_some, Option}
+use Rattle.sise_util.specs.Atom.{kind_number, kind_prefix, is_atom_prefix}
 use Rattle.sise_util.specs.declared.util.AtomKind.{AtomKind}
 
 infixr 20 ◌then◌
@@ -50,8 +50,8 @@ abbrev pub kind_at : List ℕ → ℕ → ℕ → ℕ
 kind_at text p n = kind_number (kind_prefix (drop p text) n)
 
 -- "A table with the wrong one is refused as 15"; "where the bytes are no atom, each of the three passes"
-abbrev pub fits_kind : AtomKind → ℕ → Bool
-fits_kind a k = cond (is_kind a) (eqb k (kind_number a)) (leb 1 k && leb k 3)
+abbrev pub fits_kind : Option AtomKind → ℕ → Bool
+fits_kind a k = cond (is_some a) (eqb k (kind_number a)) (leb 1 k && leb k 3)
 
 -- an atom of these three words "lies in the text", and its first word is its kind
 unfoldable pub sits : List ℕ → ℕ → ℕ → ℕ → Bool

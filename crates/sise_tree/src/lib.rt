@@ -7,7 +7,7 @@ mod parse;
 mod tree;
 mod whole;
 
-pub use find::{Found, find_path};
-pub use parse::{ParsedTree, TreeRead, parse_tree};
-pub use tree::{Held, Indexed, LONGEST, holds_tree, index_path, wide};
+pub use find::Found;
+pub use parse::{TreeError, TreeRead, parse_tree};
+pub use tree::{Held, LONGEST, PathError, TreeTable, wide};
 pub use whole::parse_text;

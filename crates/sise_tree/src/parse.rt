@@ -1,21 +1,18 @@
 // A node of a text, read into a lent table.
 ghost use Rattle.std.specs.Prelude.{◌≡◌, ◌≤◌, ◌<◌, ◌+◌, ◌-◌, ◌/◌, length};
-ghost use Rattle.sise_parser.specs.Meaning.{answer_as};
 ghost use Rattle.sise_tree.specs.Tree.{kind_at};
-ghost use Rattle.sise_tree.specs.Answers.{parsed_as, number_of, place_of, code_of};
+ghost use Rattle.sise_tree.specs.Answers.{tree_refusal};
+ghost use Rattle.sise_tree.specs.declared.parse.TreeError.TheVariants.{Refused};
 ghost use Rattle.sise_tree.specs.ParseTree.{read_node, parse_tree, DoesParse};
-ghost use Rattle.sise_tree.specs.Filling.{settled_as, DoesCount, CountsOn, mark, put_at, CanAttach, Attaches, CanClose, Closes, CanPut, Puts, CanTurn, Turns, CanStart, Starts, CanFill, DoesFill, CanFillOn, FillsOn};
+ghost use Rattle.sise_tree.specs.Filling.{DoesCount, mark, put_at, CanAttach, Attaches, CanClose, Closes, CanPut, Puts, CanTurn, Turns, CanStart, Starts, CanFill, DoesFill};
 
 use crate::tree::{LONGEST, wide};
-use sise_parser::{
-    Answer, ParseError, ParsedItem, Reader, atom_run, is_quote_at, item_ahead, skip_blanks,
-};
-use sise_util::check_atom_prefix;
+use sise_parser::{ParseError, ParsedItem, Reader, Refusal};
+use sise_util::{check_atom_prefix, kind_number};
 
-// What parse_tree answers: the number of nodes, or a refusal.
-#[derive(Clone, Copy)]
-pub enum ParsedTree {
-    Nodes(usize),
+// Why no tree is read.
+#[derive(Clone, Copy, Debug, PartialEq, Eq)]
+pub enum TreeError {
     // A refusal of the reader.
     Refused(ParseError),
     // A list closes where a node is due.
@@ -24,127 +21,47 @@ pub enum ParsedTree {
     TableFull,
 }
 
-impl ParsedTree {
-    // Document 01's number, 0 for a node.
-    pub fn number(self) -> u32
-        ensures { result ≡ number_of (parsed_as self) }
-    {
+impl From<ParseError> for TreeError {
+    ghost from_gives = { λ error e. e ≡ Refused error };
+
+    fn from(error: ParseError) -> TreeError {
+        TreeError::Refused(error)
+    }
+}
+
+impl Refusal for TreeError {
+    ghost meaning = { tree_refusal };
+
+    fn number(self) -> u32 {
         match self {
-            ParsedTree::Nodes(_) => 0,
-            ParsedTree::Refused(error) => error.number(),
-            ParsedTree::UnexpectedListEnd { .. } => 12,
-            ParsedTree::TextTooLong => 13,
-            ParsedTree::TableFull => 14,
+            TreeError::Refused(error) => error.number(),
+            TreeError::UnexpectedListEnd { .. } => 12,
+            TreeError::TextTooLong => 13,
+            TreeError::TableFull => 14,
         }
     }
 
-    // The place, 0 where there is none.
-    pub fn place(self) -> usize
-        ensures { result ≡ place_of (parsed_as self) }
-    {
+    fn place(self) -> usize {
         match self {
-            ParsedTree::Nodes(_) => 0,
-            ParsedTree::Refused(error) => error.place(),
-            ParsedTree::UnexpectedListEnd { pos } => pos,
-            ParsedTree::TextTooLong => 0,
-            ParsedTree::TableFull => 0,
+            TreeError::Refused(error) => error.place(),
+            TreeError::UnexpectedListEnd { pos } => pos,
+            TreeError::TextTooLong | TreeError::TableFull => 0,
         }
     }
 
-    // The code point, 0 where there is none.
-    pub fn code(self) -> u32
-        ensures { result ≡ code_of (parsed_as self) }
-    {
+    fn code(self) -> u32 {
         match self {
-            ParsedTree::Nodes(_) => 0,
-            ParsedTree::Refused(error) => error.code(),
-            ParsedTree::UnexpectedListEnd { .. } => 0,
-            ParsedTree::TextTooLong => 0,
-            ParsedTree::TableFull => 0,
+            TreeError::Refused(error) => error.code(),
+            _ => 0,
         }
     }
 }
 
-// What parse_tree hands back.
-#[derive(Clone, Copy)]
+// What parse_tree hands back: the record behind the node, and the number of nodes.
+#[derive(Clone, Copy, Debug, PartialEq, Eq)]
 pub struct TreeRead {
     pub reader: Reader,
-    pub answer: ParsedTree,
-}
-
-// The same record, copied field by field as item_ahead wrote it, which is faster than a copy of the whole.
-fn renewed(r: Reader) -> Reader
-    ensures { result ≡ r }
-{
-    let phase = r.phase;
-    Reader {
-        position: r.position,
-        phase,
-        lists: r.lists,
-    }
-}
-
-// What a reading comes to whose last call answered so: a node, of so many nodes, or the refusal. The loop leaves this to it, and looks at the kind of an
-// answer alone.
-fn settled(answer: Answer, nodes: usize) -> ParsedTree
-    ensures { parsed_as result ≡ settled_as (answer_as answer) nodes }
-{
-    match answer {
-        Answer::Item(_) => ParsedTree::Nodes(nodes),
-        Answer::Refused(error) => ParsedTree::Refused(error),
-    }
-}
-
-// Where the counting stands: the reader's position, how many of the node's lists are open, and how many nodes there were.
-#[derive(Clone, Copy)]
-struct Counted {
-    position: usize,
-    depth: usize,
-    nodes: usize,
-}
-
-// Counts on while the tokens are plain: a `(`, a `)` that does not end the node, or an atom without strings. Any other is left to item_ahead.
-fn count_plain(text: &[u8], before: Counted) -> Counted
-    requires { (before.depth ≤ before.nodes) × (before.nodes ≤ before.position) }
-    ensures on { CountsOn text.now before result }
-    ensures after { before.position ≤ result.position }
-{
-    if before.depth == 0 {
-        return before;
-    }
-    let mut position = before.position;
-    let mut depth = before.depth;
-    let mut nodes = before.nodes;
-    loop {
-        let start = skip_blanks(text, position);
-        if text.len() <= start {
-            break;
-        }
-        let byte = text[start];
-        if byte == b'(' {
-            position = start + 1;
-            depth += 1;
-            nodes += 1;
-        } else if byte == b')' {
-            if depth == 1 {
-                break;
-            }
-            position = start + 1;
-            depth -= 1;
-        } else {
-            let end = atom_run(text, start);
-            if end == start || is_quote_at(text, end) {
-                break;
-            }
-            position = end;
-            nodes += 1;
-        }
-    }
-    Counted {
-        position,
-        depth,
-        nodes,
-    }
+    pub answer: Result<usize, TreeError>,
 }
 
 // Reads the node that is due and counts its nodes.
@@ -155,30 +72,17 @@ pub(crate) fn count_nodes(text: &[u8], reader: Reader) -> TreeRead
     let mut depth: usize = 0;
     let mut nodes: usize = 0;
     let answer = loop {
-        let run = count_plain(
-            text,
-            Counted {
-                position: r.position,
-                depth,
-                nodes,
-            },
-        );
-        depth = run.depth;
-        nodes = run.nodes;
-        let phase = r.phase;
-        let next = item_ahead(run.position, phase, reader.lists + depth, text);
-        let answer = next.answer;
-        let after = next.reader;
-        r = renewed(after);
-        let Answer::Item(item) = answer else {
-            let last = next.answer;
-            break settled(last, nodes);
+        let next = r.next_item(text);
+        r = next.reader;
+        let item = match next.answer {
+            Ok(item) => item,
+            Err(error) => break Err(TreeError::Refused(error)),
         };
         match item {
             ParsedItem::Atom { .. } => {
                 nodes += 1;
                 if depth == 0 {
-                    break ParsedTree::Nodes(nodes);
+                    break Ok(nodes);
                 }
             }
             ParsedItem::ListStart { .. } => {
@@ -187,11 +91,11 @@ pub(crate) fn count_nodes(text: &[u8], reader: Reader) -> TreeRead
             }
             ParsedItem::ListEnd { pos } => {
                 if depth == 0 {
-                    break ParsedTree::UnexpectedListEnd { pos };
+                    break Err(TreeError::UnexpectedListEnd { pos });
                 }
                 depth -= 1;
                 if depth == 0 {
-                    break ParsedTree::Nodes(nodes);
+                    break Ok(nodes);
                 }
             }
         }
@@ -248,8 +152,7 @@ fn kind_at(text: &[u8], pos: usize, end: usize) -> u32
     requires { (pos ≤ end) × (end ≤ length text.now) }
     ensures { result ≡ kind_at text.now pos (end - pos) }
 {
-    let kind = check_atom_prefix(&text[pos..], end - pos);
-    kind.number()
+    kind_number(check_atom_prefix(&text[pos..], end - pos))
 }
 
 // An atom from `pos` to `end` is written with its kind, and counted as a child.
@@ -301,62 +204,6 @@ fn put_item(text: &[u8], table: &mut [u32], mark: Mark, item: ParsedItem, end: u
     }
 }
 
-// Where the filling and its reader stand: the position, how many of the node's lists are open, and the mark's fields.
-#[derive(Clone, Copy)]
-struct Filled {
-    position: usize,
-    depth: usize,
-    next: u32,
-    parent: u32,
-}
-
-// Writes on while the tokens are plain, as count_plain counts.
-fn fill_plain(text: &[u8], table: &mut [u32], before: Filled) -> Filled
-    requires { CanFillOn text.now table.old before }
-    ensures on { FillsOn text.now table.old before result table.new }
-    ensures after { before.position ≤ result.position }
-{
-    let mut position = before.position;
-    let mut depth = before.depth;
-    let mut next = before.next;
-    let mut parent = before.parent;
-    loop {
-        let start = skip_blanks(text, position);
-        if text.len() <= start {
-            break;
-        }
-        let byte = text[start];
-        if byte == b'(' {
-            put_start(table, next, parent);
-            position = start + 1;
-            depth += 1;
-            parent = next;
-            next += 1;
-        } else if byte == b')' {
-            if depth == 1 {
-                break;
-            }
-            parent = close_list(table, next, parent);
-            position = start + 1;
-            depth -= 1;
-        } else {
-            let end = atom_run(text, start);
-            if end == start || is_quote_at(text, end) {
-                break;
-            }
-            put_atom(table, next, parent, 1, start, end);
-            position = end;
-            next += 1;
-        }
-    }
-    Filled {
-        position,
-        depth,
-        next,
-        parent,
-    }
-}
-
 // Reads a node again, which is known to be one and to have room, and writes its words.
 pub(crate) fn fill_nodes(text: &[u8], reader: Reader, table: &mut [u32])
     requires { CanFill text.now reader table.old }
@@ -365,38 +212,15 @@ pub(crate) fn fill_nodes(text: &[u8], reader: Reader, table: &mut [u32])
     let mut r = reader;
     let mut mark = Mark { next: 0, parent: 0 };
     loop {
-        let phase = r.phase;
-        let next = item_ahead(r.position, phase, r.lists, text);
-        let answer = next.answer;
-        let after = next.reader;
-        r = renewed(after);
-        let Answer::Item(item) = answer else {
+        let next = r.next_item(text);
+        r = next.reader;
+        let Ok(item) = next.answer else {
             return;
         };
         mark = put_item(text, table, mark, item, r.position);
         if r.lists == reader.lists {
             return;
         }
-        let run = fill_plain(
-            text,
-            table,
-            Filled {
-                position: r.position,
-                depth: r.lists - reader.lists,
-                next: mark.next,
-                parent: mark.parent,
-            },
-        );
-        mark = Mark {
-            next: run.next,
-            parent: run.parent,
-        };
-        let phase = r.phase;
-        r = Reader {
-            position: run.position,
-            phase,
-            lists: reader.lists + run.depth,
-        };
     }
 }
 
@@ -407,18 +231,17 @@ pub fn parse_tree(text: &[u8], reader: Reader, table: &mut [u32]) -> TreeRead
     if text.len() > LONGEST {
         return TreeRead {
             reader,
-            answer: ParsedTree::TextTooLong,
+            answer: Err(TreeError::TextTooLong),
         };
     }
     let counted = count_nodes(text, reader);
-    let answer = counted.answer;
-    let ParsedTree::Nodes(nodes) = answer else {
+    let Ok(nodes) = counted.answer else {
         return counted;
     };
     if nodes > table.len() / 4 {
         return TreeRead {
             reader,
-            answer: ParsedTree::TableFull,
+            answer: Err(TreeError::TableFull),
         };
     }
     fill_nodes(text, reader, table);

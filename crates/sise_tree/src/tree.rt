@@ -1,20 +1,20 @@
 // Tables: whether one holds a tree, and the node at the end of a path.
-ghost use Rattle.std.specs.Prelude.{◌≡◌, ◌&&◌, ◌+◌, ◌-◌, ◌*◌, ◌/◌, ◌^◌, ◌≤◌, ◌<◌, eqb, length, get_or};
-ghost use Rattle.sise_util.specs.Atom.{is_kind};
+ghost use Rattle.std.specs.Prelude.{◌≡◌, ◌&&◌, ◌+◌, ◌-◌, ◌*◌, ◌/◌, ◌^◌, ◌≤◌, ◌<◌, eqb, length, get_or, is_some};
 ghost use Rattle.sise_tree.specs.Tree.{kind, linked, fills_in, fits_kind};
 ghost use Rattle.sise_tree.specs.Parts.{SameFrom, good_in, atom_holds_at, stepped, MoreThan};
 ghost use Rattle.sise_tree.specs.Decision.{decide};
 ghost use Rattle.sise_tree.specs.Held.{held_if, held_as, is_tree};
 ghost use Rattle.sise_tree.specs.IndexPath.{index_path};
-ghost use Rattle.sise_tree.specs.Answers.{indexed_as, number_of};
+ghost use Rattle.sise_tree.specs.Answers.{indexed_as, path_refusal};
 
-use sise_util::{AtomKind, check_atom_prefix};
+use sise_parser::Refusal;
+use sise_util::{AtomKind, check_atom_prefix, kind_number};
 
 // The longest text of a tree call.
 pub const LONGEST: usize = 16777216;
 
 // What a table holds over a text.
-#[derive(Clone, Copy)]
+#[derive(Clone, Copy, Debug, PartialEq, Eq)]
 pub enum Held {
     // A tree, and each atom of it is one.
     Tree,
@@ -24,27 +24,35 @@ pub enum Held {
     NotATree,
 }
 
-// What index_path answers: the node's index, or a refusal.
-#[derive(Clone, Copy)]
-pub enum Indexed {
-    Node(usize),
-    TextTooLong,
-    NotATree,
-    NoSuchNode,
+// Why no node is found at the end of a path, by document 01's numbers.
+#[derive(Clone, Copy, Debug, PartialEq, Eq)]
+pub enum PathError {
+    TextTooLong = 13,
+    NotATree = 15,
+    NoSuchNode = 16,
 }
 
-impl Indexed {
-    // Document 01's number, 0 for a node.
-    pub fn number(self) -> u32
-        ensures { result ≡ number_of (indexed_as self) }
-    {
-        match self {
-            Indexed::Node(_) => 0,
-            Indexed::TextTooLong => 13,
-            Indexed::NotATree => 15,
-            Indexed::NoSuchNode => 16,
-        }
+impl Refusal for PathError {
+    ghost meaning = { path_refusal };
+
+    fn number(self) -> u32 {
+        self as u32
     }
+
+    fn place(self) -> usize {
+        0
+    }
+
+    fn code(self) -> u32 {
+        0
+    }
+}
+
+// A table, and the text in which its atoms lie.
+#[derive(Clone, Copy)]
+pub struct TreeTable<'a> {
+    pub table: &'a [u32],
+    pub text: &'a [u8],
 }
 
 pub fn wide(x: u32) -> usize
@@ -137,10 +145,10 @@ fn fills(table: &[u32], children: usize, end: usize) -> bool
 }
 
 // Whether an atom's first word may be `kind`, where its bytes are `atom`: the number of that kind, and each of the three where they are no atom.
-fn kind_holds(kind: u32, atom: AtomKind) -> Held
-    ensures { result ≡ held_if (fits_kind atom kind) (is_kind atom) }
+fn kind_holds(kind: u32, atom: Option<AtomKind>) -> Held
+    ensures { result ≡ held_if (fits_kind atom kind) (is_some atom) }
 {
-    let number = atom.number();
+    let number = kind_number(atom);
     if number != 0 {
         if kind == number {
             return Held::Tree;
@@ -156,112 +164,100 @@ fn kind_holds(kind: u32, atom: AtomKind) -> Held
     Held::NoAtom
 }
 
-// What the first node is: it is in the table and has one of the two forms, and an atom's bytes are one, or not. A list's third word is looked at where its
-// parent steps over it.
-fn node_holds(text: &[u8], table: &[u32]) -> Held
-    ensures { result ≡ held_if (good_in text.now table.now 0) (atom_holds_at text.now table.now 0) }
-{
-    if table.len() < 4 {
-        return Held::NotATree;
-    }
-    let first = word(table, 0, 1);
-    let second = word(table, 0, 2);
-    let span = word(table, 0, 3);
-    if table[0] == 0 {
-        if fills(table, first, span) {
-            return Held::Tree;
-        }
-        return Held::NotATree;
-    }
-    if span != 1 {
-        return Held::NotATree;
-    }
-    if text.len() < first + second {
-        return Held::NotATree;
-    }
-    kind_holds(table[0], check_atom_prefix(&text[first..], second))
-}
-
-// Whether the atoms before a node are atoms, and it is one, if an atom.
-fn are_atoms(all: bool, held: Held) -> bool
-    ensures { result ≡ (all && is_tree held) }
-{
-    if !all {
-        return false;
-    }
-    match held {
-        Held::Tree => true,
-        Held::NoAtom => false,
-        Held::NotATree => false,
-    }
-}
-
-// What the table holds over the text. Each node is tested by itself, as the first of the part of the table from it on, which is enough
-// (proofs/LocalLaws.antt), and stepped over once, by its list; an atom's bytes are looked at once. So the time is linear in the first node's span and the
-// bytes of its atoms.
-pub fn holds_tree(text: &[u8], table: &[u32]) -> Held
-    ensures { result ≡ held_as text.now (decide text.now table.now) }
-{
-    let nodes = table.len() / 4;
-    if nodes == 0 {
-        return Held::NotATree;
-    }
-    let end = word(table, 0, 3);
-    if end == 0 {
-        return Held::NotATree;
-    }
-    if end > nodes {
-        return Held::NotATree;
-    }
-    let mut i = 0;
-    let mut all = true;
-    while i < end {
-        let held = node_holds(text, &table[4 * i..]);
-        if let Held::NotATree = held {
-            return Held::NotATree;
-        }
-        all = are_atoms(all, held);
-        i += 1;
-    }
-    if all { Held::Tree } else { Held::NoAtom }
-}
-
 // The node that comes after `index` nodes, from node `first` on.
 fn child(table: &[u32], first: usize, index: u64) -> usize
     requires { MoreThan table.now index first }
     ensures { result ≡ stepped table.now index first }
 {
     let mut at = first;
-    let mut left = index;
-    while left > 0 {
+    for _step in 0..index {
         at += word(table, at, 3);
-        left -= 1;
     }
     at
 }
 
-// The node at the end of the path: its index in the table. An index of the path counts a list's children from 0.
-pub fn index_path(table: &[u32], text: &[u8], path: &[u64]) -> Indexed
-    ensures { indexed_as result ≡ index_path table.now text.now path.now }
-{
-    if text.len() > LONGEST {
-        return Indexed::TextTooLong;
-    }
-    if let Held::NotATree = holds_tree(text, table) {
-        return Indexed::NotATree;
-    }
-    let mut at = 0;
-    let mut k = 0;
-    while k < path.len() {
-        let index = path[k];
-        if table[4 * at] != 0 {
-            return Indexed::NoSuchNode;
+impl<'a> TreeTable<'a> {
+    // What the first node is: it is in the table and has one of the two forms, and an atom's bytes are one, or not. A list's third word is looked at where its
+    // parent steps over it.
+    fn node_holds(self) -> Held
+        ensures { result ≡ held_if (good_in self.entry.text.now self.entry.table.now 0) (atom_holds_at self.entry.text.now self.entry.table.now 0) }
+    {
+        let table = self.table;
+        if table.len() < 4 {
+            return Held::NotATree;
         }
-        if index >= word(table, at, 1) as u64 {
-            return Indexed::NoSuchNode;
+        let first = word(table, 0, 1);
+        let second = word(table, 0, 2);
+        let span = word(table, 0, 3);
+        if table[0] == 0 {
+            if fills(table, first, span) {
+                return Held::Tree;
+            }
+            return Held::NotATree;
         }
-        at = child(table, at + 1, index);
-        k += 1;
+        if span != 1 {
+            return Held::NotATree;
+        }
+        if self.text.len() < first + second {
+            return Held::NotATree;
+        }
+        kind_holds(table[0], check_atom_prefix(&self.text[first..], second))
     }
-    Indexed::Node(at)
+
+    // What the table holds over the text. Each node is tested by itself, as the first of the part of the table from it on, which is enough
+    // (proofs/LocalLaws.antt), and stepped over once, by its list; an atom's bytes are looked at once. So the time is linear in the first node's span and the
+    // bytes of its atoms.
+    pub fn holds_tree(self) -> Held
+        ensures { result ≡ held_as self.entry.text.now (decide self.entry.text.now self.entry.table.now) }
+    {
+        let table = self.table;
+        let nodes = table.len() / 4;
+        if nodes == 0 {
+            return Held::NotATree;
+        }
+        let end = word(table, 0, 3);
+        if end == 0 {
+            return Held::NotATree;
+        }
+        if end > nodes {
+            return Held::NotATree;
+        }
+        let mut all = true;
+        for i in 0..end {
+            let part = TreeTable {
+                table: &table[4 * i..],
+                text: self.text,
+            };
+            let held = part.node_holds();
+            if let Held::NotATree = held {
+                return Held::NotATree;
+            }
+            all = all && matches!(held, Held::Tree);
+        }
+        if all { Held::Tree } else { Held::NoAtom }
+    }
+
+    // The node at the end of the path: its index in the table. An index of the path counts a list's children from 0.
+    pub fn index_path(self, path: &[u64]) -> Result<usize, PathError>
+        ensures { indexed_as result ≡ index_path self.entry.table.now self.entry.text.now path.now }
+    {
+        let table = self.table;
+        if self.text.len() > LONGEST {
+            return Err(PathError::TextTooLong);
+        }
+        if let Held::NotATree = self.holds_tree() {
+            return Err(PathError::NotATree);
+        }
+        let mut at = 0;
+        for &index in path {
+            if table[4 * at] != 0 {
+                return Err(PathError::NoSuchNode);
+            }
+            if index >= word(table, at, 1) as u64 {
+                return Err(PathError::NoSuchNode);
+            }
+            at = child(table, at + 1, index);
+        }
+        Ok(at)
+    }
 }

@@ -20,7 +20,9 @@ use Rattle.sise_tree_writer.specs.SerializeTree.{Writes, refuse, write_tree, ser
 use Rattle.sise_tree_writer.specs.Writing.{write_text, IsWritten}
 use Rattle.sise_tree_writer.specs.Sizes.{Enquiry, adds, refuses, added, enquiry_by, enquiry, same, commit, commit_tree, commit_text, MeasuresTree, MeasuresText, CommitsTree, CommitsText}
 use Rattle.sise_tree_writer.specs.declared.serialize.TreeWrote.{TreeWrote}
-use Rattle.sise_tree_writer.specs.declared.size.Measured.{Measured}
+use Rattle.sise_tree_writer.specs.declared.serialize.WriteTreeError.{WriteTreeError}
+use Rattle.sise_tree_writer.specs.declared.size.TreeSize.{TreeSize}
+use Rattle.std.specs.Prelude.{Result}
 use Rattle.sise_tree_layout.proofs.TreeRooms.{tree_measured}
 use Rattle.sise_tree_writer.proofs.Sizes.{tree_grown, never_23, commit_refused, sized, commit_same, commit_changed}
 
@@ -138,12 +140,12 @@ module _ (s : Style) (b : List ℕ) (w : Serializer) (text words : List ℕ) (ca
 
 -- ---- of the programs: what measure_tree answers, handed to commit_tree with a buffer of the length asked for, does what serialize_tree does; and so for whole texts
 
-pub pair_tree : (s : Style) (b : List ℕ) (w : Serializer) (text words : List ℕ) (t : ℕ) (m : Measured) {r : TreeWrote} {now : List ℕ}
+pub pair_tree : (s : Style) (b : List ℕ) (w : Serializer) (text words : List ℕ) (t : ℕ) (m : Result TreeSize WriteTreeError) {r : TreeWrote} {now : List ℕ}
     → MeasuresTree s (length b) w text words t m → CommitsTree s b w text words t m r now
     → DoesWrite (serialize_tree s b w text words t) r now
 pair_tree s b w text words t m h d = rw (ap (commit_tree s b w text words t) (h b refl) ∙ one_call b w (serialize_tree s b w text words t)) at d
 
-pub pair_text : (s : Style) (b text words : List ℕ) (t : ℕ) (wished : Bool) (m : Measured) {r : TreeWrote} {now : List ℕ}
+pub pair_text : (s : Style) (b text words : List ℕ) (t : ℕ) (wished : Bool) (m : Result TreeSize WriteTreeError) {r : TreeWrote} {now : List ℕ}
     → MeasuresText s (length b) text words t wished m → CommitsText s b text words t wished m r now
     → DoesWrite (write_text s b text words t wished) r now
 pair_text s b text words t wished m h d =

@@ -17,7 +17,7 @@ use Rattle.sise_serializer.specs.Serializer.{Style, Piece, Written, lists_fit, i
 use Rattle.sise_serializer.specs.declared.serializer.Phase.{Phase}
 use Rattle.sise_serializer.specs.declared.serializer.Phase.TheVariants.{Beginning}
 use Rattle.sise_serializer.specs.declared.serializer.Serializer.{Serializer}
-use Rattle.sise_serializer.specs.Calls.{Call, put_atom_call, begin_list_call, end_list_call, finish_call, step, run}
+use Rattle.sise_serializer.specs.Calls.{Call, put_atom_call, begin_list_call, end_list_call, finish_call, is_accepted, step, run}
 use Rattle.sise_serializer.proofs.Sound.{sound, writing_lists}
 use Rattle.sise_serializer.proofs.Kept.{sound_kept}
 use Rattle.sise_serializer.proofs.Verdicts.{Puts, atom_alone, atom_inside, list_first, list_inside, list_closed, text_ended, Verdict, refuses, puts, verdict}
@@ -37,17 +37,16 @@ checked_atom text p m h =
     let z : m ≡ 0 = omega (arith, leb-false (p + m) (length text) e, length-drop p text) in
     absurd (false≢true (ap (λ (k : ℕ). is_atom (take k (drop p text))) (sym z) ∙ and_second (leb m (length (drop p text))) _ h)))
 
--- no bytes of a text
-pub part_none : (text : List ℕ) → part_of text 0 0 ≡ []
-unfolding part_of
-part_none text = split (leb (0 + 0) (length text)) (λ e. rw (e, part_of)) (λ e. rw (e, part_of))
-
 -- ---- fitting, call by call
 
 module _ (s : Style) (room : ℕ) (w : Serializer) (c : Call) (cs : List Call) where
   pub fits_on : {o : ℕ} → (step s room w c).answer ≡ writer.Answer.accepted o → fits s room w (c ∷ cs) ≡ fits s room (step s room w c).serializer cs
   unfolding fits
   fits_on h = rw h
+
+  pub fits_stop : is_accepted (step s room w c).answer ≡ false → fits s room w (c ∷ cs) ≡ false
+  unfolding fits
+  fits_stop h = rw h
 
   pub fits_off : {n : ℕ} → (step s room w c).answer ≡ writer.Answer.refused n → fits s room w (c ∷ cs) ≡ false
   unfolding fits

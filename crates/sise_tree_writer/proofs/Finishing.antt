@@ -4,17 +4,17 @@ use Prim.Native.Nat.{ℕ, ◌+◌, ◌≤◌}
 use native.Mathlib.Omega.{arith}
 use mathlib.Core.Path.{◌≡◌, refl, sym, ap, ◌∙◌}
 use mathlib.Core.Bool.{Bool, true, false, ◌&&◌, false≢true}
+use Rattle.std.specs.Prelude.{Some, None, Ok, Err}
 use mathlib.Core.List.{List, [], ◌∷◌, ◌++◌, append-nil}
 use lib.ListN.{length, replicate, length-replicate}
 use Rattle.sise_util.proofs.Ranges.{split, and_first, and_second}
 use Rattle.sise_parser.specs.Reader.{part_of}
 use Rattle.sise_serializer.specs.Bytes.{pasted}
 use Rattle.sise_serializer.specs.Serializer as writer
-use Rattle.sise_serializer.specs.Serializer.{Style, Piece, answer_as, is_sound, last}
+use Rattle.sise_serializer.specs.Serializer.{Style, Piece, is_sound, last}
 use Rattle.sise_serializer.specs.Parts.{break_bytes}
 use Rattle.sise_serializer.proofs.Verdicts.{Puts, text_ended}
 use Rattle.sise_serializer.specs.declared.serializer.Serializer.{Serializer}
-use Rattle.sise_serializer.specs.declared.serializer.Wrote.{Wrote}
 use Rattle.sise_serializer.specs.Calls.{largest, Call, put_atom_call, begin_list_call, end_list_call, finish_call, is_accepted, step, run}
 use Rattle.sise_tree.specs.Tree.{Node, atom, list}
 use Rattle.sise_tree.specs.Answers.{answered}
@@ -23,7 +23,7 @@ use Rattle.sise_tree_writer.specs.SerializeTree.{node_calls, row_calls, tree_cal
 use Rattle.sise_tree_writer.specs.Writing.{text_calls, PlansTree}
 use Rattle.sise_tree_writer.specs.Planning.{Plans}
 use Rattle.sise_tree_writer.specs.Walking.{after, first_answer}
-use Rattle.sise_tree_writer.specs.declared.serialize.PutTree.TheVariants.{At, NoRoom}
+use Rattle.sise_tree_writer.specs.declared.serialize.WriteTreeError.TheVariants.{NoRoom}
 use Rattle.sise_tree_writer.specs.declared.serialize.TreeWrote.{TreeWrote}
 use Rattle.sise_tree_writer.proofs.Made.{Made, made}
 use Rattle.sise_tree_writer.proofs.CallLaws.{fits_first, accepted_keeps, run_after, after_sound}
@@ -50,15 +50,6 @@ module _ (s : Style) (room : ℕ) (f : Call) where
       last-true true = refl
       last-true false = refl
   fits_more w (c ∷ cs) = split (is_accepted (step s room w c).answer) (λ y. rw y (fits_more (step s room w c).serializer cs)) (λ y. rw y)
-
--- calls that fit keep the buffer's length
-run_long : (s : Style) (w : Serializer) (cs : List Call) (b : List ℕ) → fits s (length b) w cs ≡ true → length (run s b w cs).buffer ≡ length b
-unfolding run
-run_long s w [] b y = refl
-run_long s w (c ∷ cs) b y =
-    let (o, e, more) = fits_first s (length b) w c cs y in
-    let long = accepted_keeps s b w c e in
-    run_long s (step s (length b) w c).serializer cs (pasted b w.position (step s (length b) w c).bytes) (rw long more) ∙ long
 
 -- the buffer after one call more
 run_more : (s : Style) (w : Serializer) (cs : List Call) (f : Call) (b : List ℕ) → fits s (length b) w cs ≡ true
@@ -123,29 +114,27 @@ module _ (s : Style) (room : ℕ) (w : Serializer) (text words : List ℕ) (t : 
     tree_first =
         rw block_long at (offset_first s block w calls (sym (ap (λ (d : Writes). d.answer) taken.same) ∙ sym (measured block block_long).answer ∙ e))
 
-    module _ (wished : Bool) {p : Wrote} (plan : Plans (finish_call wished) s room r.serializer p) where
-      ahead : Plans (finish_call wished) s room (after s room w calls) p
-      ahead = rw tree_after at plan
-
+    module _ (wished : Bool) where
       abbrev whole : List Call
       whole = text_calls text t wished taken.node
 
       -- the finish has no room
-      pub text_full : {n : ℕ} → answer_as p.answer ≡ writer.Answer.refused n → {x : TreeWrote} → x ≡ record { serializer = w; answer = NoRoom }
-          → (b : List ℕ) → length b ≡ room → DoesMeasure (write_tree s b w text words (text_calls text t wished)) x
+      pub text_full : Plans (finish_call wished) s room r.serializer None → (b : List ℕ) → length b ≡ room
+          → DoesMeasure (write_tree s b w text words (text_calls text t wished)) (record { serializer = w; answer = Err NoRoom })
       unfolding text_calls
-      text_full q z b long =
-          let f : fits s room w whole ≡ false = fits_more s room (finish_call wished) w calls ∙ rw (tree_fits, sym ahead.answer ∙ q) in
-          rw (taken.made b (text_calls text t wished), written_off s b w whole (rw long f)) (refused_measures b w NoRoom refl z)
+      text_full plan b long =
+          let f : fits s room w whole ≡ false = fits_more s room (finish_call wished) w calls ∙ rw (tree_fits, (rw tree_after at plan)) in
+          rw (taken.made b (text_calls text t wished), written_off s b w whole (rw long f)) (refused_measures b w NoRoom refl)
 
       -- or it has
-      pub text_fits : {q : ℕ} → answer_as p.answer ≡ writer.Answer.accepted q
-          → (b : List ℕ) → length b ≡ room → DoesMeasure (write_tree s b w text words (text_calls text t wished)) (record { serializer = p.serializer; answer = At o })
+      pub text_fits : {v : Serializer} → Plans (finish_call wished) s room r.serializer (Some v) → (b : List ℕ) → length b ≡ room
+          → DoesMeasure (write_tree s b w text words (text_calls text t wished)) (record { serializer = v; answer = Ok o })
       unfolding text_calls
-      text_fits q b long =
-          let f : fits s room w whole ≡ true = fits_more s room (finish_call wished) w calls ∙ rw (tree_fits, sym ahead.answer ∙ q) in
-          let v : p.serializer ≡ after s (length b) w whole = ahead.serializer ∙ sym (after_more s room (finish_call wished) w calls) ∙ rw long refl in
-          rw (taken.made b (text_calls text t wished), v) (fits_measures s b w whole (rw long f) (rw long (first_more s room (finish_call wished) w calls tree_first)))
+      text_fits {v} plan b long =
+          let ahead = rw tree_after at plan in
+          let f : fits s room w whole ≡ true = fits_more s room (finish_call wished) w calls ∙ rw (tree_fits, ahead.1) in
+          let e : v ≡ after s (length b) w whole = ahead.0 ∙ sym (after_more s room (finish_call wished) w calls) ∙ rw long refl in
+          rw (taken.made b (text_calls text t wished), e) (fits_measures s b w whole (rw long f) (rw long (first_more s room (finish_call wished) w calls tree_first)))
 
   -- the tree has no room, or is refused before: so is the whole text
   pub text_none : (wished : Bool) → ((o : ℕ) → put_as r.answer ≡ answered o → ⊥) → (b : List ℕ) → length b ≡ room → DoesMeasure (write_tree s b w text words (text_calls text t wished)) r
@@ -173,7 +162,7 @@ unfolding text_calls
 text_tree s room w text t wished n f = and_first (fits s room w (tree_calls text t n)) _ (sym (fits_more s room (finish_call wished) w (tree_calls text t n)) ∙ f)
 
 -- an accepted answer has an offset
-accepted_as : (a : writer.Answer) → is_accepted a ≡ true → (o : ℕ) × (a ≡ writer.Answer.accepted o)
+pub accepted_as : (a : writer.Answer) → is_accepted a ≡ true → (o : ℕ) × (a ≡ writer.Answer.accepted o)
 accepted_as (writer.Answer.accepted o) e = (o, refl)
 accepted_as (writer.Answer.refused n) e = absurd (false≢true e)
 

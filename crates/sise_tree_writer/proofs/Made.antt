@@ -4,20 +4,15 @@ use Prim.Native.Nat.{ℕ, ◌+◌, ◌≤◌, min}
 use native.Mathlib.Omega.{arith}
 use mathlib.Core.Path.{◌≡◌, refl, sym, ap, ◌∙◌}
 use mathlib.Core.Bool.{Bool, true, false}
-use mathlib.Core.List.{List, [], ◌∷◌}
+use mathlib.Core.List.{List}
 use lib.ListN.{length}
-use types.Run.{OneOf}
-use denote.Enum.Declared.{tag_of}
 use Rattle.sise_serializer.specs.Bytes.{pasted}
 use Rattle.sise_serializer.specs.Serializer as writer
 use Rattle.sise_serializer.specs.Serializer.{limit, Style, Piece, Written, first_atom, first_list, inner, close}
 use Rattle.sise_serializer.specs.Calls.{Call, end_list_call, step}
-use Rattle.sise_serializer.specs.declared.serializer.Phase.{Phase}
 use Rattle.sise_serializer.specs.declared.serializer.Phase.TheVariants.{Beginning, Writing}
 use Rattle.sise_serializer.specs.declared.serializer.Serializer.{Serializer}
-use Rattle.sise_serializer.proofs.Running.{no_zero}
 use Rattle.sise_serializer.proofs.Verdicts.{end_of, put, Puts, atom_alone, atom_inside, list_first, list_inside, list_closed, Verdict, refuses, puts, verdict}
-use Rattle.sise_serializer.specs.contracts.serializer.Phase as phases
 use Rattle.sise_tree_writer.specs.Planning.{token_of, first_item, begun_at, item_call, Room, WritesPiece, CanMake, Makes}
 
 -- a refusal is no acceptance
@@ -58,10 +53,6 @@ module _ {c : Call} {s : Style} {w : Serializer} {before : List ℕ} (can : CanM
     }
 
 -- ---- which piece
-
--- the phase is another one
-pub not_beginning : (p : Phase) → OneOf (1 ∷ 2 ∷ 3 ∷ []) (tag_of phases.the_type p) → p ≡ Beginning → ⊥
-not_beginning p k e = no_zero 0 (1 ∷ 2 ∷ []) (rw e at k)
 
 module _ (s : Style) (w : Serializer) (a : List ℕ) (t : ℕ) where
   -- the first item's

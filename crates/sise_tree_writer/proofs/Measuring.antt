@@ -4,19 +4,17 @@ use Prim.Native.Nat.{ℕ, ◌+◌, ◌≤◌, ◌<◌}
 use native.Mathlib.Omega.{arith}
 use mathlib.Core.Path.{◌≡◌, refl, sym, ap, ◌∙◌}
 use mathlib.Core.Bool.{true, false, false≢true}
-use mathlib.Core.Option.{Option, none, some, some-injective}
+use mathlib.Core.Option.{Option as Maybe, none, some, some-injective}
+use Rattle.std.specs.Prelude.{Option, Some, None, Ok, Err}
 use mathlib.Core.List.{List, [], ◌∷◌}
 use lib.Dec.{ltb}
 use lib.ListN.{length}
 use borrow.Author.Tests.{lt-ltb, le-ltb, ltb-false}
-use types.Run.{OneOf}
-use denote.Enum.Declared.{tag_of}
 use Rattle.sise_util.proofs.Ranges.{split}
 use Rattle.sise_serializer.specs.Serializer as writer
 use Rattle.sise_serializer.specs.Serializer.{Style, is_sound}
 use Rattle.sise_serializer.specs.declared.serializer.Serializer.{Serializer}
 use Rattle.sise_serializer.specs.Calls.{Call, step, run}
-use Rattle.sise_serializer.proofs.Running.{no_zero}
 use Rattle.sise_tree.specs.Tree.{Node, atoms_hold}
 use Rattle.sise_tree.specs.Decision.{decide, is_some}
 use Rattle.sise_tree.specs.ParseTree.{longest}
@@ -26,16 +24,14 @@ use Rattle.sise_tree.specs.Held.{held_as}
 use Rattle.sise_tree.specs.declared.tree.Held.{Held}
 use Rattle.sise_tree.specs.declared.tree.Held.TheVariants as held
 use Rattle.sise_tree.proofs.HeldLaws.{flawed_held, none_held}
-use Rattle.sise_tree_writer.specs.Answers.{put_as, refusal_of}
+use Rattle.sise_tree_writer.specs.Answers.{error_number, refusal_of}
 use Rattle.sise_tree_writer.specs.SerializeTree.{fits, Writes, refuse, first_offset, written, is_over, write_node, write_tree, DoesMeasure}
 use Rattle.sise_tree_writer.specs.Writing.{Checked}
 use Rattle.sise_tree_writer.specs.Walking.{after, first_answer, Finds, all, off}
-use Rattle.sise_tree_writer.specs.declared.measure.Walked.{Walked}
-use Rattle.sise_tree_writer.specs.declared.measure.Walked.TheVariants.{Fits, Refused}
-use Rattle.sise_tree_writer.specs.declared.serialize.PutTree.{PutTree}
-use Rattle.sise_tree_writer.specs.declared.serialize.PutTree.TheVariants.{At, TextTooLong, UnsoundRecord, NotATree, InvalidAtom, WritingFinished, NoRoom, SizeChanged}
+use Rattle.sise_tree_writer.specs.declared.measure.Planned.{Planned}
+use Rattle.sise_tree_writer.specs.declared.serialize.WriteTreeError.{WriteTreeError}
+use Rattle.sise_tree_writer.specs.declared.serialize.WriteTreeError.TheVariants.{NotATree, InvalidAtom, NoRoom}
 use Rattle.sise_tree_writer.specs.declared.serialize.TreeWrote.{TreeWrote}
-use Rattle.sise_tree_writer.specs.contracts.serialize.PutTree as puts
 use Rattle.sise_tree_writer.proofs.CallLaws.{fits_first, run_after}
 use Rattle.sise_tree_writer.proofs.Placing.{fits_lands, lands_answers}
 
@@ -46,21 +42,9 @@ no_answer {n = n} {o} e = let z : ◌≡◌ {A = ℕ} 0 1 = cc in absurd (omega 
 pub same_number : {n k : ℕ} → refused_with n ≡ refused_with k → n ≡ k
 same_number e = ap number_of e
 
--- an answer that is no offset
-pub not_at : (p : PutTree) → OneOf (1 ∷ 2 ∷ 3 ∷ 4 ∷ 5 ∷ 6 ∷ 7 ∷ []) (tag_of puts.the_type p) → (o : ℕ) → put_as p ≡ answered o → ⊥
-not_at (At x) k o e = no_zero 0 (1 ∷ 2 ∷ 3 ∷ 4 ∷ 5 ∷ 6 ∷ []) k
-not_at TextTooLong k o e = no_answer e
-not_at UnsoundRecord k o e = no_answer e
-not_at NotATree k o e = no_answer e
-not_at InvalidAtom k o e = no_answer e
-not_at WritingFinished k o e = no_answer e
-not_at NoRoom k o e = no_answer e
-not_at SizeChanged k o e = no_answer e
-
 -- a refusal leaves the record; whatever the buffer is
-pub refused_measures : (b : List ℕ) (w : Serializer) {n : ℕ} (a : PutTree) {r : TreeWrote} → put_as a ≡ refused_with n → r ≡ record { serializer = w; answer = a }
-    → DoesMeasure (refuse n b w) r
-refused_measures b w a e q = rw q (record { serializer = refl; answer = e })
+pub refused_measures : (b : List ℕ) (w : Serializer) {n : ℕ} (e : WriteTreeError) → error_number e ≡ n → DoesMeasure (refuse n b w) (record { serializer = w; answer = Err e })
+refused_measures b w e q = record { serializer = refl; answer = ap refused_with q }
 
 -- ---- the checks, in their order
 
@@ -68,7 +52,7 @@ none_decided : (l words : List ℕ) → is_some (decide l words) ≡ false → d
 unfolding is_some
 none_decided l words h = of (decide l words) h
   where
-    of : (d : Option Node) → is_some d ≡ false → d ≡ none
+    of : (d : Maybe Node) → is_some d ≡ false → d ≡ none
     of none e = refl
     of (some n) e = absurd (false≢true (sym e))
 
@@ -83,7 +67,7 @@ module _ (s : Style) (b : List ℕ) (w : Serializer) (text words : List ℕ) (ca
     tree_unsound h = rw (le-ltb longest (length text) short, h)
 
     module _ (fine : is_sound w ≡ true) where
-      decided : {d : Option Node} → decide text words ≡ d → write_tree s b w text words calls ≡ write_node s b w text calls d
+      decided : {d : Maybe Node} → decide text words ≡ d → write_tree s b w text words calls ≡ write_node s b w text calls d
       unfolding write_tree
       decided e = rw (le-ltb longest (length text) short, fine) (ap (write_node s b w text calls) e)
 
@@ -112,14 +96,14 @@ module _ (s : Style) (b : List ℕ) (w : Serializer) (text words : List ℕ) (ca
 
 -- what the table holds is no tree of atoms: 15 or 17
 pub unheld_measures : (s : Style) (b : List ℕ) (w : Serializer) (text words : List ℕ) (calls : Node → List Call) → length text ≤ longest → is_sound w ≡ true
-    → (h : Held) → h ≡ held_as text (decide text words) → (h ≡ held.Tree → ⊥) → {r : TreeWrote} → r ≡ record { serializer = w; answer = refusal_of h }
-    → DoesMeasure (write_tree s b w text words calls) r
-unheld_measures s b w text words calls short fine held.Tree e f q = absurd (f refl)
-unheld_measures s b w text words calls short fine held.NoAtom e f q =
+    → (h : Held) → h ≡ held_as text (decide text words) → (h ≡ held.Tree → ⊥)
+    → DoesMeasure (write_tree s b w text words calls) (record { serializer = w; answer = Err (refusal_of h) })
+unheld_measures s b w text words calls short fine held.Tree e f = absurd (f refl)
+unheld_measures s b w text words calls short fine held.NoAtom e f =
     let (n, d, a) = flawed_held text (decide text words) e refl in
-    rw (tree_atoms s b w text words calls short fine d a) (refused_measures b w InvalidAtom refl q)
-unheld_measures s b w text words calls short fine held.NotATree e f q =
-    rw (tree_none s b w text words calls short fine (none_held text (decide text words) e refl)) (refused_measures b w NotATree refl q)
+    rw (tree_atoms s b w text words calls short fine d a) (refused_measures b w InvalidAtom refl)
+unheld_measures s b w text words calls short fine held.NotATree e f =
+    rw (tree_none s b w text words calls short fine (none_held text (decide text words) e refl)) (refused_measures b w NotATree refl)
 
 -- a tree call is refused before its calls are made, with 11 to 19, whatever they are and whatever the buffer is; or it comes to what they write
 pub data Tested (s : Style) (w : Serializer) (text words : List ℕ) : Type 0 where
@@ -128,7 +112,7 @@ pub data Tested (s : Style) (w : Serializer) (text words : List ℕ) : Type 0 wh
       → ((b : List ℕ) (calls : Node → List Call) → write_tree s b w text words calls ≡ written s b w (calls n)) → Tested s w text words
 
 module _ (s : Style) (w : Serializer) (text words : List ℕ) where
-  node_tested : length text ≤ longest → is_sound w ≡ true → (d : Option Node) → decide text words ≡ d → Tested s w text words
+  node_tested : length text ≤ longest → is_sound w ≡ true → (d : Maybe Node) → decide text words ≡ d → Tested s w text words
   unfolding write_tree write_node
   node_tested short f none d = fails 15 (omega arith) (λ b calls. rw (le-ltb longest (length text) short, f, d))
   node_tested short f (some n) d =
@@ -179,21 +163,20 @@ module _ (s : Style) (b : List ℕ) (w : Serializer) (cs : List Call) where
   written_off f = rw f
 
   pub fits_measures : {o : ℕ} → fits s (length b) w cs ≡ true → first_answer s (length b) w cs ≡ writer.Answer.accepted o
-      → DoesMeasure (written s b w cs) (record { serializer = after s (length b) w cs; answer = At o })
+      → DoesMeasure (written s b w cs) (record { serializer = after s (length b) w cs; answer = Ok o })
   fits_measures f a = rw (written_on f) (record { serializer = sym (run_after s w cs b f); answer = sym (first_offset_lem s b w cs a) })
 
 -- what a walk finds in room bytes is what holds of a buffer of so many bytes
 module _ {s : Style} {room : ℕ} {w : Serializer} {cs : List Call} (b : List ℕ) (long : length b ≡ room) where
-  pub found_fits : {m : Walked} {v : Serializer} {o : ℕ} → Finds s room w cs m → m ≡ Fits v o → DoesMeasure (written s b w cs) (record { serializer = v; answer = At o })
-  found_fits {v = v} {o} (all {o = x} f a) e =
-      let vz : after s room w cs ≡ v = cc in
-      let oz : x ≡ o = cc in
-      rw (← vz, ← oz, ← long) (fits_measures s b w cs (rw long f) (rw long a))
-  found_fits {v = v} {o} (off f) e = let z : ◌≡◌ {A = ℕ} 0 1 = cc in absurd (omega arith)
+  pub found_fits : {m : Option Planned} {p : Planned} → Finds s room w cs m → m ≡ Some p → DoesMeasure (written s b w cs) (record { serializer = p.serializer; answer = Ok p.offset })
+  found_fits {p = p} (all {o = x} f a) e =
+      let q : record { serializer = after s room w cs; offset = x } ≡ p = cc in
+      rw (← q, ← long) (fits_measures s b w cs (rw long f) (rw long a))
+  found_fits {p = p} (off f) e = absurd cc
 
-  pub found_off : {m : Walked} {r : TreeWrote} → Finds s room w cs m → m ≡ Refused → r ≡ record { serializer = w; answer = NoRoom } → DoesMeasure (written s b w cs) r
-  found_off (all f a) e q = let z : ◌≡◌ {A = ℕ} 0 1 = cc in absurd (omega arith)
-  found_off (off f) e q = rw (written_off s b w cs (rw long f)) (refused_measures b w NoRoom refl q)
+  pub found_off : {m : Option Planned} → Finds s room w cs m → m ≡ None → DoesMeasure (written s b w cs) (record { serializer = w; answer = Err NoRoom })
+  found_off (all f a) e = absurd cc
+  found_off (off f) e = rw (written_off s b w cs (rw long f)) (refused_measures b w NoRoom refl)
 
 -- ---- what a tree call's answer says
 

@@ -1,32 +1,25 @@
 -- What a tree would add: the counts of the record only go up, one call never answers 23, and so the differences between two records are a size.
 -- Assumes nothing.
-use Prim.Native.Nat.{ℕ, ◌-◌}
+use Prim.Native.Nat.{ℕ}
 use native.Mathlib.Omega.{arith}
 use mathlib.Core.Path.{◌≡◌, refl, sym, ap, ◌∙◌}
 use mathlib.Core.Bool.{Bool, true, false}
+use Rattle.std.specs.Prelude.{Err}
 use mathlib.Core.List.{List, [], ◌∷◌}
-use lib.Dec.{eqb}
 use lib.ListN.{length}
-use borrow.Author.Tests.{eq-eqb, ne_eqb}
-use types.Run.{OneOf}
-use denote.Enum.Declared.{tag_of}
 use Rattle.sise_util.proofs.Ranges.{split}
 use Rattle.sise_serializer.specs.Bytes.{pasted}
 use Rattle.sise_serializer.specs.Serializer.{Style, Piece, Written, Gap, new_line, nothing, space, gap_at, laid, first_atom, first_list, inner, inner_as, close, close_as, last}
 use Rattle.sise_serializer.specs.declared.serializer.Serializer.{Serializer}
 use Rattle.sise_serializer.specs.Calls.{Call, step, run}
 use Rattle.sise_serializer.proofs.Verdicts.{Puts, atom_alone, atom_inside, list_first, list_inside, list_closed, text_ended, Verdict, refuses, puts, verdict}
-use Rattle.sise_serializer.proofs.Running.{no_zero}
 use Rattle.sise_tree.specs.Tree.{Node}
 use Rattle.sise_tree.specs.Answers.{Answer, answered, refused, refused_with}
 use Rattle.sise_tree_writer.specs.Answers.{put_as}
 use Rattle.sise_tree_writer.specs.SerializeTree.{fits, Writes, refuse, written, write_tree, DoesWrite, DoesMeasure}
-use Rattle.sise_tree_writer.specs.Sizes.{Enquiry, measured_as, added, enquiry_by, enquiry, same, commit, Grown, CanMeasure}
-use Rattle.sise_tree_writer.specs.declared.serialize.PutTree.TheVariants.{SizeChanged}
+use Rattle.sise_tree_writer.specs.Sizes.{Enquiry, added, enquiry_by, enquiry, same, commit, Grown}
+use Rattle.sise_tree_writer.specs.declared.serialize.WriteTreeError.TheVariants.{SizeChanged}
 use Rattle.sise_tree_writer.specs.declared.serialize.TreeWrote.{TreeWrote}
-use Rattle.sise_tree_writer.specs.declared.size.Measured.{Measured}
-use Rattle.sise_tree_writer.specs.declared.size.Measured.TheVariants.{Size, TextTooLong, UnsoundRecord, NotATree, InvalidAtom, WritingFinished, NoRoom}
-use Rattle.sise_tree_writer.specs.contracts.size.Measured as sizes
 use Rattle.sise_tree_writer.proofs.Measuring.{no_answer, written_on, written_off, Tested, fails, passes, tested, same_number, on_answer}
 
 -- ---- the counts go up
@@ -111,11 +104,8 @@ module _ (s : Style) (b : List ℕ) (w : Serializer) where
         of (fails k lt q) = let z = same_number (sym (ap (λ (d : Writes). d.answer) (q b calls)) ∙ e) in omega arith
         of (passes n d a h v q) = written_unsized (calls n) (sym (ap (λ (d : Writes). d.answer) (q b calls)) ∙ e)
 
-    pub can_measure : {r : TreeWrote} → DoesMeasure (write_tree s b w text words calls) r → CanMeasure w r
-    can_measure m = record {
-      grown = rw m.serializer tree_grown;
-      unsized = λ e. never_23 (sym m.answer ∙ e);
-    }
+    pub measured_grown : {r : TreeWrote} → DoesMeasure (write_tree s b w text words calls) r → Grown w r.serializer
+    measured_grown m = rw m.serializer tree_grown
 
 -- ---- enquiry and commit
 
@@ -157,35 +147,12 @@ module _ (b : List ℕ) (w : Serializer) (d : Writes) (given : Enquiry) {r : Tre
     of_size : {y : Bool} → x ≡ y → same given (added w d.serializer) ≡ y
     of_size z = ap (λ (v : Serializer). same given (added w v)) (sym m.serializer) ∙ sym h ∙ z
 
-    pub does_changed : x ≡ false → {q : TreeWrote} → q ≡ record { serializer = w; answer = SizeChanged } → DoesWrite (commit b w d given) q b
-    does_changed z q =
-        rw (commit_changed b w d given (sym m.answer ∙ e) (of_size z), q)
+    pub does_changed : x ≡ false → DoesWrite (commit b w d given) (record { serializer = w; answer = Err SizeChanged }) b
+    does_changed z =
+        rw (commit_changed b w d given (sym m.answer ∙ e) (of_size z))
         (record { serializer = refl; answer = refl; buffer = refl })
 
     pub does_same : x ≡ true → {now : List ℕ} → now ≡ d.buffer → DoesWrite (commit b w d given) r now
     does_same z q =
         rw (commit_same b w d given (sym m.answer ∙ e) (of_size z))
         (record { serializer = m.serializer; answer = m.answer; buffer = q })
-
--- ---- the comparison of a size, number by number
-
--- an answer that is no size
-pub no_size : (m : Measured) → OneOf (1 ∷ 2 ∷ 3 ∷ 4 ∷ 5 ∷ 6 ∷ []) (tag_of sizes.the_type m) → (w v : Serializer) → same (measured_as m) (added w v) ≡ false
-no_size (Size bytes breaks indents) k w v = absurd (no_zero 0 (1 ∷ 2 ∷ 3 ∷ 4 ∷ 5 ∷ []) k)
-no_size TextTooLong k w v = refl
-no_size UnsoundRecord k w v = refl
-no_size NotATree k w v = refl
-no_size InvalidAtom k w v = refl
-no_size WritingFinished k w v = refl
-no_size NoRoom k w v = refl
-
-module _ {m : Measured} {bytes breaks indents : ℕ} (given : m ≡ Size bytes breaks indents) (w v : Serializer) where
-  pub other_bytes : (bytes ≡ v.position - w.position → ⊥) → false ≡ same (measured_as m) (added w v)
-  other_bytes h = rw (given, ne_eqb bytes (v.position - w.position) h)
-
-  module _ (e : bytes ≡ v.position - w.position) where
-    pub other_breaks : (breaks ≡ v.breaks - w.breaks → ⊥) → false ≡ same (measured_as m) (added w v)
-    other_breaks h = rw (given, eq-eqb bytes (v.position - w.position) e, ne_eqb breaks (v.breaks - w.breaks) h)
-
-    pub last-decides : breaks ≡ v.breaks - w.breaks → eqb indents (v.indents - w.indents) ≡ same (measured_as m) (added w v)
-    last-decides h = rw (given, eq-eqb bytes (v.position - w.position) e, eq-eqb breaks (v.breaks - w.breaks) h)

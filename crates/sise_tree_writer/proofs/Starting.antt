@@ -4,6 +4,7 @@ use Prim.Native.Nat.{ℕ, ◌+◌, ◌*◌, ◌≤◌, ◌<◌, min}
 use native.Mathlib.Omega.{arith}
 use mathlib.Core.Path.{◌≡◌, refl, sym, ap, ◌∙◌}
 use mathlib.Core.Bool.{Bool, true, false, false≢true}
+use Rattle.std.specs.Prelude.{Some, None}
 use mathlib.Core.List.{List, []}
 use lib.ListN.{length}
 use borrow.Author.Tests.{le-leb}
@@ -13,7 +14,7 @@ use Rattle.sise_serializer.specs.Parts.{spot_of, gap_bytes, in_line}
 use Rattle.sise_serializer.specs.Calls.{step}
 use Rattle.sise_serializer.specs.declared.serializer.Phase.TheVariants.{Beginning}
 use Rattle.sise_serializer.specs.declared.serializer.Serializer.{Serializer}
-use Rattle.sise_serializer.specs.declared.buffer.Spot.TheVariants as spot
+use Rattle.sise_serializer.specs.declared.buffer.Spot.{Spot}
 use Rattle.sise_serializer.proofs.Bytes.{layout_length}
 use Rattle.sise_serializer.proofs.Spots.{found, not_found}
 use Rattle.sise_serializer.proofs.Does.{new_line_is, in_line_is}
@@ -56,14 +57,14 @@ module _ (s : Style) (room : ℕ) (w : Serializer) (t : ℕ) where
           → (made s room w (item_call a isList t) e).piece ≡ inner_as s w (token_of isList a) isList new_line
       layout_is a isList e = inner_piece s w a t isList (made s room w (item_call a isList t) e).its h ∙ new_line_is s w (token_of isList a) isList t l
 
-      pub new_line_starts : {at end : ℕ} → spot.At at end ≡ spot_of room w.position gap 0 → Starts s room w t at
+      pub new_line_starts : {x : Spot} → spot_of room w.position gap 0 ≡ Some x → Starts s room w t x.at
       unfolding inner_as
       new_line_starts q a isList o e =
           let its = ap (λ (p : Piece). length p.layout) (layout_is a isList e) ∙ gap_length in
           omega (arith, (found room w.position gap 0 q).offset, made_offset s room w (item_call a isList t) e, its)
 
       -- no item is accepted there
-      pub none_starts : {r : ℕ} → spot.NoRoom ≡ spot_of room w.position gap 0 → Starts s room w t r
+      pub none_starts : {r : ℕ} → spot_of room w.position gap 0 ≡ None → Starts s room w t r
       unfolding inner_as
       none_starts q a isList o e =
           let its = ap (λ (p : Piece). length p.layout) (layout_is a isList e) ∙ gap_length in

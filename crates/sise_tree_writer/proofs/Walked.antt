@@ -5,47 +5,30 @@ use native.Mathlib.Omega.{arith}
 use mathlib.Core.Path.{◌≡◌, refl, sym, ap, ◌∙◌}
 use mathlib.Core.Bool.{Bool, true, false, ◌||◌, cond, false≢true}
 use mathlib.Core.Option.{some, some-injective}
+use Rattle.std.specs.Prelude.{Some, None}
 use mathlib.Core.List.{List, [], ◌∷◌}
 use lib.Dec.{eqb}
 use lib.ListN.{length}
 use borrow.Author.Tests.{eqb-true, eqb-false, eq-eqb}
-use types.Run.{OneOf}
-use denote.Enum.Declared.{tag_of}
 use Rattle.sise_util.specs.Atom.{is_atom}
 use Rattle.sise_util.proofs.Ranges.{split}
 use Rattle.sise_serializer.specs.Bytes.{pasted}
 use Rattle.sise_serializer.specs.Serializer as writer
-use Rattle.sise_serializer.specs.Serializer.{Style, answer_as, is_sound}
-use Rattle.sise_serializer.specs.Calls.{largest, Call, step, run}
+use Rattle.sise_serializer.specs.Serializer.{Style, is_sound}
+use Rattle.sise_serializer.specs.Calls.{largest, Call, is_accepted, step, run}
 use Rattle.sise_serializer.specs.declared.serializer.Serializer.{Serializer}
-use Rattle.sise_serializer.specs.declared.serializer.Put.{Put}
-use Rattle.sise_serializer.specs.declared.serializer.Put.TheVariants as put
-use Rattle.sise_serializer.specs.declared.serializer.Wrote.{Wrote}
 use Rattle.sise_serializer.proofs.Kept.{sound_kept}
-use Rattle.sise_serializer.proofs.Running.{no_zero}
-use Rattle.sise_serializer.specs.contracts.serializer.Put as puts
 use Rattle.sise_tree.specs.Tree.{Node, kind, span}
 use Rattle.sise_tree.specs.Decision.{decide}
 use Rattle.sise_tree.proofs.LocalLaws.{held}
 use Rattle.sise_tree_writer.specs.SerializeTree.{tree_calls, fits}
 use Rattle.sise_tree_writer.specs.Writing.{Checked}
-use Rattle.sise_tree_writer.specs.Planning.{Plans, CanMake, Makes, item_call, turn_call, Starts}
+use Rattle.sise_tree_writer.specs.Planning.{CanMake, Makes, item_call, turn_call, Starts}
 use Rattle.sise_tree_writer.specs.Walking.{opens_at, atom_at, AtomIn, Passable, passed, after, first_answer, Finds, all, off, Walkable}
-use Rattle.sise_tree_writer.specs.declared.measure.Walked.TheVariants.{Fits, Refused}
 use Rattle.sise_tree_writer.proofs.Atoms.{atom_in, atom_good}
-use Rattle.sise_tree_writer.proofs.CallLaws.{fits_first, fits_off, lists_after, accepted_lists, closed_list, written_if, Same, same_start, same_on}
+use Rattle.sise_tree_writer.proofs.CallLaws.{fits_first, fits_stop, lists_after, accepted_lists, closed_list, written_if, Same, same_start, same_on}
 use Rattle.sise_tree_writer.proofs.Starting.{tree_starts}
 use Rattle.sise_tree_writer.proofs.Turns.{At, root, inside, behind, Turn, turn}
-
--- an answer that is no offset
-pub not_put : (p : Put) → OneOf (1 ∷ 2 ∷ 3 ∷ 4 ∷ 5 ∷ 6 ∷ []) (tag_of puts.the_type p) → (n : ℕ) × (answer_as p ≡ writer.Answer.refused n)
-not_put (put.At x) k = absurd (no_zero 0 (1 ∷ 2 ∷ 3 ∷ 4 ∷ 5 ∷ []) k)
-not_put put.UnsoundRecord k = (11, refl)
-not_put put.InvalidAtom k = (17, refl)
-not_put put.NoListToEnd k = (18, refl)
-not_put put.WritingFinished k = (19, refl)
-not_put put.WritingNotFinished k = (20, refl)
-not_put put.NoRoom k = (22, refl)
 
 pub record Walking (s : Style) (text words : List ℕ) (t : ℕ) (writes : Bool) (room : ℕ) (b₀ : List ℕ) (w₀ : Serializer) (b : List ℕ) (w : Serializer) (i cur end : ℕ) (begins left : Bool) (o : ℕ) : Type 0 where
   pub tree : Node
@@ -118,10 +101,8 @@ module _ {s : Style} {text words : List ℕ} {t : ℕ} {writes : Bool} {room : �
         due = made.due ∙ rw (its, lines)
 
         -- refused, the calls do not fit
-        pub turn_off : {r : Wrote} → Plans call s room w r → OneOf (1 ∷ 2 ∷ 3 ∷ 4 ∷ 5 ∷ 6 ∷ []) (tag_of puts.the_type r.answer) → fits s room w₀ calls ≡ false
-        turn_off {r} plan k =
-            let (n, e) = not_put r.answer k in
-            sym h.same.fit ∙ ap (fits s room w) due ∙ fits_off s room w call made.more (sym plan.answer ∙ e)
+        pub turn_off : is_accepted (step s room w call).answer ≡ false → fits s room w₀ calls ≡ false
+        turn_off e = sym h.same.fit ∙ ap (fits s room w) due ∙ fits_stop s room w call made.more e
 
         -- where they are written, it is accepted
         pub turn_can : writes ≡ true → CanMake call s w b
@@ -199,7 +180,7 @@ module _ {s : Style} {text words : List ℕ} {t : ℕ} {writes : Bool} {room : �
   -- ---- the walk ends
 
   -- a call was refused
-  pub walk_off : fits s room w₀ calls ≡ false → {n : Node} → decide text words ≡ some n → Finds s room w₀ (tree_calls text t n) Refused
+  pub walk_off : fits s room w₀ calls ≡ false → {n : Node} → decide text words ≡ some n → Finds s room w₀ (tree_calls text t n) None
   walk_off f d = off (rw (the_tree d) at f)
 
   -- nothing is left
@@ -220,7 +201,7 @@ module _ {s : Style} {text words : List ℕ} {t : ℕ} {writes : Bool} {room : �
     unfolding after
     ending = sym (ap (after s room w) over) ∙ h.same.last
 
-    pub walk_all : {r : ℕ} → Starts s room w₀ t r → {n : Node} → decide text words ≡ some n → Finds s room w₀ (tree_calls text t n) (Fits w r)
+    pub walk_all : {r : ℕ} → Starts s room w₀ t r → {n : Node} → decide text words ≡ some n → Finds s room w₀ (tree_calls text t n) (Some (record { serializer = w; offset = r }))
     walk_all starts d =
         let first = h.offset (ended h.at).1 in
         rw (← the_tree d, ending) (all all_fit (first ∙ ap writer.Answer.accepted (sym (tree_starts s room w₀ text t h.tree first starts))))

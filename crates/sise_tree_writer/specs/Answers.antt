@@ -1,25 +1,48 @@
 -- What the code's answers of the writing calls mean (document 01, "Refusals" and "Trees").
 -- Assumes nothing.
+use Rattle.std.specs.Prelude.{ℕ, Result, Ok, Err}
+use Rattle.sise_parser.specs.Refusals.{Refusal, refusal}
+use Rattle.sise_serializer.specs.declared.serializer.Serializer.{Serializer}
 use Rattle.sise_tree.specs.Answers.{Answer, answered, refused_with}
 use Rattle.sise_tree.specs.declared.tree.Held.{Held}
 use Rattle.sise_tree.specs.declared.tree.Held.TheVariants as held
 use Rattle.sise_tree.specs.declared.tree.Held.TheVariants.{Tree, NoAtom}
-use Rattle.sise_tree_writer.specs.declared.serialize.PutTree.{PutTree}
-use Rattle.sise_tree_writer.specs.declared.serialize.PutTree.TheVariants.{At, TextTooLong, UnsoundRecord, NotATree, InvalidAtom, WritingFinished, NoRoom, SizeChanged}
+use Rattle.sise_tree_writer.specs.declared.measure.Planned.{Planned}
+use Rattle.sise_tree_writer.specs.declared.serialize.TreeWrote.{TreeWrote}
+use Rattle.sise_tree_writer.specs.declared.serialize.WriteTreeError.{WriteTreeError}
+use Rattle.sise_tree_writer.specs.declared.serialize.WriteTreeError.TheVariants.{TextTooLong, UnsoundRecord, NotATree, InvalidAtom, WritingFinished, NoRoom, SizeChanged}
 
--- the numbers and values of each case
-abbrev pub put_as : PutTree → Answer
-put_as (At o) = answered o
-put_as TextTooLong = refused_with 13
-put_as UnsoundRecord = refused_with 11
-put_as NotATree = refused_with 15
-put_as InvalidAtom = refused_with 17
-put_as WritingFinished = refused_with 19
-put_as NoRoom = refused_with 22
-put_as SizeChanged = refused_with 23
+-- the number of each refusal
+abbrev pub error_number : WriteTreeError → ℕ
+error_number TextTooLong = 13
+error_number UnsoundRecord = 11
+error_number NotATree = 15
+error_number InvalidAtom = 17
+error_number WritingFinished = 19
+error_number NoRoom = 22
+error_number SizeChanged = 23
+
+-- it has no place and no code point
+abbrev pub write_refusal : WriteTreeError → Refusal
+write_refusal e = refusal (error_number e) 0 0
+
+-- the offset, or the number, of each answer
+abbrev pub put_as : Result ℕ WriteTreeError → Answer
+put_as (Ok o) = answered o
+put_as (Err e) = refused_with (error_number e)
+
+-- a refusal's number, and 0 where there is none, whatever the call answers
+abbrev pub answer_number : {T : Type 0} → Result T WriteTreeError → ℕ
+answer_number (Ok x) = 0
+answer_number (Err e) = error_number e
+
+-- what a call on the record w hands back: a refusal leaves the record
+abbrev pub wrote_of : Serializer → Result Planned WriteTreeError → TreeWrote
+wrote_of w (Ok p) = record { serializer = p.serializer; answer = Ok p.offset }
+wrote_of w (Err e) = record { serializer = w; answer = Err e }
 
 -- the refusal of what a table holds that is no tree of atoms: 15 or 17
-abbrev pub refusal_of : Held → PutTree
+abbrev pub refusal_of : Held → WriteTreeError
 refusal_of Tree = NotATree
 refusal_of NoAtom = InvalidAtom
 refusal_of held.NotATree = NotATree

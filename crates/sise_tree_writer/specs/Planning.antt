@@ -1,21 +1,19 @@
--- What it means that a call is planned: its record and its answer are those of the call, and nothing is written; and that a call which is known to fit is
--- made: its record and its bytes are those of the call.
+-- What it means that a call is planned: the record behind it is that of the call, if it is accepted, and nothing is written; and that a call which is known to
+-- fit is made: its record and its bytes are those of the call.
 -- Assumes nothing.
-use Rattle.std.specs.Prelude.{ℕ, ◌+◌, ◌≤◌, ◌≡◌, Bool, true, false, cond, List, [], ◌∷◌, ◌++◌, length}
+use Rattle.std.specs.Prelude.{ℕ, ◌+◌, ◌≤◌, ◌≡◌, Bool, true, false, cond, List, [], ◌∷◌, ◌++◌, length, Option, MatchOption}
 use Rattle.sise_serializer.specs.Bytes.{pasted}
-use Rattle.sise_serializer.specs.Serializer.{limit, Style, Answer, Written, answer_as, is_sound, Piece, first_atom, first_list, phase_after}
-use Rattle.sise_serializer.specs.Calls.{Call, put_atom_call, begin_list_call, end_list_call, step}
+use Rattle.sise_serializer.specs.Serializer.{limit, Style, Answer, Written, is_sound, Piece, first_atom, first_list}
+use Rattle.sise_serializer.specs.Calls.{Call, put_atom_call, begin_list_call, end_list_call, is_accepted, step}
 use Rattle.sise_serializer.specs.declared.serializer.Phase.TheVariants.{Writing, Finished}
 use Rattle.sise_serializer.specs.declared.serializer.Serializer.{Serializer}
-use Rattle.sise_serializer.specs.declared.serializer.Wrote.{Wrote}
 
--- record and answer are as d says
-pub record PlansAs (d : Written) (r : Wrote) : Type 0 where
-  pub serializer : r.serializer ≡ d.serializer
-  pub answer : answer_as r.answer ≡ d.answer
+-- r is the record behind d, or there is none, as d is a refusal
+abbrev pub PlansAs : Written → Option Serializer → Type 0
+PlansAs d r = MatchOption r (is_accepted d.answer ≡ false) (λ v. (v ≡ d.serializer) × (is_accepted d.answer ≡ true))
 
--- those of a call in a buffer of room bytes
-abbrev pub Plans : Call → Style → ℕ → Serializer → Wrote → Type 0
+-- that of a call in a buffer of room bytes
+abbrev pub Plans : Call → Style → ℕ → Serializer → Option Serializer → Type 0
 Plans c s room w r = PlansAs (step s room w c) r
 
 -- an item's token: a `(`, or the atom a
@@ -38,20 +36,6 @@ begun_at w position isList = record {
   indents = w.indents;
   phase = cond isList Writing Finished;
   list_beginning = cond isList true w.list_beginning;
-}
-
--- the record behind the end of a list, with n lists left open
-abbrev pub closed_with : ℕ → ℕ → ℕ → ℕ → ℕ → ℕ → ℕ → Serializer
-closed_with n broken position line spaces breaks indents = record {
-  position = position;
-  lists = n;
-  broken = broken;
-  line_len = line;
-  spaces = spaces;
-  breaks = breaks;
-  indents = indents;
-  phase = phase_after n;
-  list_beginning = false;
 }
 
 -- begin_list, or put_atom of the atom a

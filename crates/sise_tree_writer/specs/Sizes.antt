@@ -1,30 +1,25 @@
 -- Size first, then the text (document 02, 2.2): "Writing a tree splits into an enquiry ... and a commit".
 -- Assumes nothing.
-use Rattle.std.specs.Prelude.{ℕ, ◌-◌, ◌≤◌, ◌≡◌, Bool, false, ◌&&◌, cond, List, eqb, length}
+use Rattle.std.specs.Prelude.{ℕ, ◌-◌, ◌≤◌, ◌≡◌, Bool, false, ◌&&◌, cond, List, eqb, length, Result, Ok, Err}
 use Rattle.sise_serializer.specs.Serializer.{Style, fresh_serializer}
 use Rattle.sise_serializer.specs.declared.serializer.Serializer.{Serializer}
-use Rattle.sise_tree.specs.Answers.{Answer, answered, refused, refused_with}
-use Rattle.sise_tree_writer.specs.Answers.{put_as}
+use Rattle.sise_tree.specs.Answers.{Answer, answered, refused}
+use Rattle.sise_tree_writer.specs.Answers.{error_number}
 use Rattle.sise_tree_writer.specs.SerializeTree.{Writes, refuse, serialize_tree, DoesWrite}
 use Rattle.sise_tree_writer.specs.Writing.{write_text}
 use Rattle.sise_tree_writer.specs.declared.serialize.TreeWrote.{TreeWrote}
-use Rattle.sise_tree_writer.specs.declared.size.Measured.{Measured}
-use Rattle.sise_tree_writer.specs.declared.size.Measured.TheVariants.{Size, TextTooLong, UnsoundRecord, NotATree, InvalidAtom, WritingFinished, NoRoom}
+use Rattle.sise_tree_writer.specs.declared.serialize.WriteTreeError.{WriteTreeError}
+use Rattle.sise_tree_writer.specs.declared.size.TreeSize.{TreeSize}
 
 -- "an enquiry, which answers the bytes, breaks and indents that this tree would add, or the refusal", by its number
 pub data Enquiry : Type 0 where
   adds : (bytes breaks indents : ℕ) → Enquiry
   refuses : ℕ → Enquiry
 
--- the numbers and values of each case
-abbrev pub measured_as : Measured → Enquiry
-measured_as (Size bytes breaks indents) = adds bytes breaks indents
-measured_as TextTooLong = refuses 13
-measured_as UnsoundRecord = refuses 11
-measured_as NotATree = refuses 15
-measured_as InvalidAtom = refuses 17
-measured_as WritingFinished = refuses 19
-measured_as NoRoom = refuses 22
+-- the numbers of a size, or the number of a refusal
+abbrev pub measured_as : Result TreeSize WriteTreeError → Enquiry
+measured_as (Ok z) = adds z.bytes z.breaks z.indents
+measured_as (Err e) = refuses (error_number e)
 
 -- a refusal's number, and 0 where there is none
 abbrev pub number_in : Enquiry → ℕ
@@ -67,17 +62,17 @@ abbrev pub commit_text : Style → List ℕ → List ℕ → List ℕ → ℕ �
 commit_text s buffer text words t wished given = commit buffer fresh_serializer (write_text s buffer text words t wished) given
 
 -- what the enquiry promises in a buffer of room bytes: its answer, whatever bytes are in it
-abbrev pub MeasuresTree : Style → ℕ → Serializer → List ℕ → List ℕ → ℕ → Measured → Type 0
+abbrev pub MeasuresTree : Style → ℕ → Serializer → List ℕ → List ℕ → ℕ → Result TreeSize WriteTreeError → Type 0
 MeasuresTree s room w text words t m = (b : List ℕ) → length b ≡ room → measured_as m ≡ enquiry w (serialize_tree s b w text words t)
 
-abbrev pub MeasuresText : Style → ℕ → List ℕ → List ℕ → ℕ → Bool → Measured → Type 0
+abbrev pub MeasuresText : Style → ℕ → List ℕ → List ℕ → ℕ → Bool → Result TreeSize WriteTreeError → Type 0
 MeasuresText s room text words t wished m = (b : List ℕ) → length b ≡ room → measured_as m ≡ enquiry fresh_serializer (write_text s b text words t wished)
 
 -- what the commit promises, to which the answer m is handed over, and that ended with the result r and the buffer `now`
-abbrev pub CommitsTree : Style → List ℕ → Serializer → List ℕ → List ℕ → ℕ → Measured → TreeWrote → List ℕ → Type 0
+abbrev pub CommitsTree : Style → List ℕ → Serializer → List ℕ → List ℕ → ℕ → Result TreeSize WriteTreeError → TreeWrote → List ℕ → Type 0
 CommitsTree s before w text words t m r now = DoesWrite (commit_tree s before w text words t (measured_as m)) r now
 
-abbrev pub CommitsText : Style → List ℕ → List ℕ → List ℕ → ℕ → Bool → Measured → TreeWrote → List ℕ → Type 0
+abbrev pub CommitsText : Style → List ℕ → List ℕ → List ℕ → ℕ → Bool → Result TreeSize WriteTreeError → TreeWrote → List ℕ → Type 0
 CommitsText s before text words t wished m r now = DoesWrite (commit_text s before text words t wished (measured_as m)) r now
 
 -- ---- what the private functions ask for
@@ -88,8 +83,3 @@ pub record Grown (w v : Serializer) : Type 0 where
   pub spaces : w.spaces ≤ v.spaces
   pub breaks : w.breaks ≤ v.breaks
   pub indents : w.indents ≤ v.indents
-
--- what one call from the record w would leave is r: its counts go up from there, and its answer is none of a commit
-pub record CanMeasure (w : Serializer) (r : TreeWrote) : Type 0 where
-  pub grown : Grown w r.serializer
-  pub unsized : put_as r.answer ≡ refused_with 23 → ⊥

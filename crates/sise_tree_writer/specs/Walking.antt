@@ -1,6 +1,6 @@
 -- What the functions of a walk over a tree's calls do.
 -- Assumes nothing.
-use Rattle.std.specs.Prelude.{ℕ, ◌+◌, ◌-◌, ◌*◌, ◌≤◌, ◌≡◌, Bool, true, false, cond, List, [], ◌∷◌, ltb, eqb, length}
+use Rattle.std.specs.Prelude.{ℕ, ◌+◌, ◌-◌, ◌*◌, ◌≤◌, ◌≡◌, Bool, true, false, cond, List, [], ◌∷◌, ltb, eqb, length, Option, Some, None}
 use Rattle.std.proofs.Math.Option.{some}
 use Rattle.sise_parser.specs.Reader.{part_of}
 use Rattle.sise_serializer.specs.Serializer as writer
@@ -12,8 +12,7 @@ use Rattle.sise_tree.specs.Decision.{decide}
 use Rattle.sise_tree_writer.specs.SerializeTree.{tree_calls, fits}
 use Rattle.sise_tree_writer.specs.Writing.{Checked}
 use Rattle.sise_tree_writer.specs.declared.walk.Place.{Place}
-use Rattle.sise_tree_writer.specs.declared.measure.Walked.{Walked}
-use Rattle.sise_tree_writer.specs.declared.measure.Walked.TheVariants.{Fits, Refused}
+use Rattle.sise_tree_writer.specs.declared.measure.Planned.{Planned}
 
 -- node i is due and is a list
 abbrev pub opens_at : List ℕ → ℕ → Bool → Bool
@@ -37,6 +36,10 @@ pub record Passable (words : List ℕ) (i list : ℕ) (closes : Bool) : Type 0 w
 abbrev place : ℕ → ℕ → ℕ → Bool → Bool → Place
 place i list end begins left = record { i = i; list = list; end = end; begins = begins; left = left }
 
+-- before the first node
+abbrev pub started : List ℕ → Place
+started words = place 0 0 (span words 0) false true
+
 -- where a walk is in the parent of a list that was closed
 abbrev outside : List ℕ → ℕ → ℕ → Place
 outside words i parent = place i parent (parent + span words parent) false true
@@ -59,9 +62,9 @@ first_answer s room w [] = writer.Answer.refused 22
 first_answer s room w (c ∷ cs) = (step s room w c).answer
 
 -- what a walk finds of calls in a buffer of room bytes
-pub data Finds (s : Style) (room : ℕ) (w : Serializer) (cs : List Call) : Walked → Type 0 where
-  all : {o : ℕ} → fits s room w cs ≡ true → first_answer s room w cs ≡ writer.Answer.accepted o → Finds s room w cs (Fits (after s room w cs) o)
-  off : fits s room w cs ≡ false → Finds s room w cs Refused
+pub data Finds (s : Style) (room : ℕ) (w : Serializer) (cs : List Call) : Option Planned → Type 0 where
+  all : {o : ℕ} → fits s room w cs ≡ true → first_answer s room w cs ≡ writer.Answer.accepted o → Finds s room w cs (Some (record { serializer = after s room w cs; offset = o }))
+  off : fits s room w cs ≡ false → Finds s room w cs None
 
 -- what a walk asks for: a sound record, and a table that was checked
 pub record Walkable (w : Serializer) (text words : List ℕ) : Type 0 where
@@ -69,7 +72,7 @@ pub record Walkable (w : Serializer) (text words : List ℕ) : Type 0 where
   pub checked : Checked text words
 
 -- what a walk that measures promises
-abbrev pub Walks : Style → ℕ → Serializer → List ℕ → List ℕ → ℕ → Walked → Type 0
+abbrev pub Walks : Style → ℕ → Serializer → List ℕ → List ℕ → ℕ → Option Planned → Type 0
 Walks s room w text words t r = (n : Node) → decide text words ≡ some n → Finds s room w (tree_calls text t n) r
 
 -- a walk that writes asks for a buffer in which the calls fit, too

@@ -8,7 +8,7 @@ use Rattle.sise_serializer.specs.Calls.{Call, finish_call}
 use Rattle.sise_tree.specs.Tree.{Node, atoms_hold}
 use Rattle.sise_tree.specs.Decision.{decide, is_some}
 use Rattle.sise_tree.specs.Answers.{answered}
-use Rattle.sise_tree_writer.specs.SerializeTree.{tree_calls, Writes, write_node, write_tree, serialize_tree, DoesMeasure}
+use Rattle.sise_tree_writer.specs.SerializeTree.{tree_calls, Writes, write_tree, serialize_tree, DoesMeasure}
 use Rattle.sise_tree_writer.specs.declared.serialize.TreeWrote.{TreeWrote}
 
 -- a tree's calls, and a finish, with a line break if wished
@@ -24,12 +24,7 @@ pub record Checked (text words : List ℕ) : Type 0 where
   pub holds : is_some (decide text words) ≡ true
   pub atoms : (n : Node) → decide text words ≡ some n → atoms_hold text n ≡ true
 
--- what measuring a tree promises in a buffer of room bytes: record and answer, once the table is known to hold the node d
-abbrev pub MeasuresNode : Style → ℕ → Serializer → List ℕ → List ℕ → ℕ → TreeWrote → Type 0
-MeasuresNode s room w text words t r =
-    (b : List ℕ) → length b ≡ room → DoesMeasure (write_node s b w text (tree_calls text t) (decide text words)) r
-
--- and from its first check on
+-- what planning a tree promises in a buffer of room bytes: record and answer
 abbrev pub PlansTree : Style → ℕ → Serializer → List ℕ → List ℕ → ℕ → TreeWrote → Type 0
 PlansTree s room w text words t r = (b : List ℕ) → length b ≡ room → DoesMeasure (serialize_tree s b w text words t) r
 

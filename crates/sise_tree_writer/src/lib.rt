@@ -11,6 +11,8 @@ mod whole;
 mod write;
 
 pub use house::{HOUSE_THRESHOLD, serialize_house, serialize_house_at};
-pub use serialize::{PutTree, TreeWrote, commit_tree, measure_tree, serialize_tree};
-pub use size::Measured;
+pub use serialize::{
+    TreeWrote, WriteTreeError, answer_number, commit_tree, measure_tree, serialize_tree,
+};
+pub use size::TreeSize;
 pub use whole::{commit_text, measure_text, write_text};

@@ -10,43 +10,44 @@ use native.Mathlib.Omega.{arith}
 use lib.Dec.{eqb, leb}
 use lib.ListN.{length, take, drop, length-drop}
 use borrow.Author.Tests.{eqb-true, eq-eqb, ne_eqb, eqb-false}
+use Rattle.std.specs.Prelude.{Option, Some, None, is_some}
 use Rattle.sise_util.specs.Chars.{is_string_chr, is_escaped_chr}
-use Rattle.sise_util.specs.Atom.{Inside, empty, chr, escape, string, Atom, one, inside, escaped, is_atom, has_quote, ends_string, ends_escaped, is_string, kind_of, kind_number, is_kind, kind_prefix, is_atom_prefix}
+use Rattle.sise_util.specs.Atom.{Inside, empty, chr, escape, string, Atom, one, inside, escaped, is_atom, has_quote, ends_string, ends_escaped, is_string, kind_of, kind_number, kind_prefix, is_atom_prefix}
 use Rattle.sise_util.specs.declared.util.AtomKind.{AtomKind}
-use Rattle.sise_util.specs.declared.util.AtomKind.TheVariants.{Plain, String, Mixed, No}
+use Rattle.sise_util.specs.declared.util.AtomKind.TheVariants.{Plain, String, Mixed}
 use Rattle.sise_util.proofs.Ranges.{split, and_first, and_second}
 use Rattle.sise_util.proofs.AtomLaws.{outside_cons, inside_cons, escaped_one, not_at, atom_test}
 
 -- ---- the definition's cases
 
 module _ (a : List ℕ) where
-  pub kind_no : is_atom a ≡ false → No ≡ kind_of a
+  pub kind_no : is_atom a ≡ false → None ≡ kind_of a
   unfolding kind_of
   kind_no e = rw e
 
   module _ (e : is_atom a ≡ true) where
-    pub kind_plain : has_quote a ≡ false → Plain ≡ kind_of a
+    pub kind_plain : has_quote a ≡ false → Some Plain ≡ kind_of a
     unfolding kind_of
     kind_plain q = rw (e, q)
 
-    pub kind_string : has_quote a ≡ true → is_string a ≡ true → String ≡ kind_of a
+    pub kind_string : has_quote a ≡ true → is_string a ≡ true → Some String ≡ kind_of a
     unfolding kind_of
     kind_string q s = rw (e, q, s)
 
-    pub kind_mixed : has_quote a ≡ true → is_string a ≡ false → Mixed ≡ kind_of a
+    pub kind_mixed : has_quote a ≡ true → is_string a ≡ false → Some Mixed ≡ kind_of a
     unfolding kind_of
     kind_mixed q s = rw (e, q, s)
 
   -- "Putting an atom needs only whether it is no"
-  pub kind_atom : is_kind (kind_of a) ≡ is_atom a
+  pub kind_atom : is_some (kind_of a) ≡ is_atom a
   kind_atom =
       split (is_atom a)
       (λ e. split (has_quote a)
-      (λ q. split (is_string a) (λ s. ap is_kind (sym (kind_string e q s)) ∙ sym e) (λ s. ap is_kind (sym (kind_mixed e q s)) ∙ sym e))
-      (λ q. ap is_kind (sym (kind_plain e q)) ∙ sym e))
-      (λ e. ap is_kind (sym (kind_no e)) ∙ sym e)
+      (λ q. split (is_string a) (λ s. ap is_some (sym (kind_string e q s)) ∙ sym e) (λ s. ap is_some (sym (kind_mixed e q s)) ∙ sym e))
+      (λ q. ap is_some (sym (kind_plain e q)) ∙ sym e))
+      (λ e. ap is_some (sym (kind_no e)) ∙ sym e)
 
-pub kind_prefix_lem : (rest : List ℕ) (n : ℕ) → is_kind (kind_prefix rest n) ≡ is_atom_prefix rest n
+pub kind_prefix_lem : (rest : List ℕ) (n : ℕ) → is_some (kind_prefix rest n) ≡ is_atom_prefix rest n
 unfolding kind_prefix is_atom_prefix
 kind_prefix_lem rest n = split (leb n (length rest)) (λ e. rw e (kind_atom (take n rest))) (λ e. rw e)
 
@@ -59,11 +60,11 @@ nothing_left r s h =
 
 -- ---- the kinds, and what each says
 
-pub data Kinds (a : List ℕ) : AtomKind → Type 0 where
-  plain : is_atom a ≡ true → has_quote a ≡ false → Kinds a Plain
-  whole : is_atom a ≡ true → has_quote a ≡ true → is_string a ≡ true → Kinds a String
-  mixed : is_atom a ≡ true → has_quote a ≡ true → is_string a ≡ false → Kinds a Mixed
-  none : is_atom a ≡ false → Kinds a No
+pub data Kinds (a : List ℕ) : Option AtomKind → Type 0 where
+  plain : is_atom a ≡ true → has_quote a ≡ false → Kinds a (Some Plain)
+  whole : is_atom a ≡ true → has_quote a ≡ true → is_string a ≡ true → Kinds a (Some String)
+  mixed : is_atom a ≡ true → has_quote a ≡ true → is_string a ≡ false → Kinds a (Some Mixed)
+  none : is_atom a ≡ false → Kinds a None
 
 pub kinds : (a : List ℕ) → Kinds a (kind_of a)
 unfolding kind_of
@@ -73,7 +74,7 @@ kinds a =
     (λ e. rw e (none e))
 
 -- two kinds with two numbers
-apart : {A : Type 0} {k l : AtomKind} → k ≡ l → (kind_number k ≡ kind_number l → ⊥) → A
+apart : {A : Type 0} {k l : Option AtomKind} → k ≡ l → (kind_number k ≡ kind_number l → ⊥) → A
 apart e f = absurd (f (ap kind_number e))
 
 -- ---- a string of the grammar
@@ -139,46 +140,46 @@ string_atom (m, i, e) = rw e ((atom_test (34 ∷ m ++ 34 ∷ [])).1 (one (string
 
 module _ (a : List ℕ) where
   -- "plain (no `"`)"
-  pub plain_kind : (kind_of a ≡ Plain) ↔ (Atom a × (has_quote a ≡ false))
+  pub plain_kind : (kind_of a ≡ Some Plain) ↔ (Atom a × (has_quote a ≡ false))
   plain_kind = (λ e. of (kinds a) e, λ h. sym (kind_plain a ((atom_test a).1 h.0) h.1))
     where
-      of : {k : AtomKind} → Kinds a k → k ≡ Plain → Atom a × (has_quote a ≡ false)
+      of : {k : Option AtomKind} → Kinds a k → k ≡ Some Plain → Atom a × (has_quote a ≡ false)
       of (plain h q) e = ((atom_test a).0 h, q)
       of (whole h q s) e = apart e (λ z. omega (arith, z))
       of (mixed h q s) e = apart e (λ z. omega (arith, z))
       of (none h) e = apart e (λ z. omega (arith, z))
 
   -- "one whole string"
-  pub string_kind : (kind_of a ≡ String) ↔ StringAtom a
+  pub string_kind : (kind_of a ≡ Some String) ↔ StringAtom a
   string_kind = (λ e. of (kinds a) e, λ s. let (h, q, w) = string_atom s in sym (kind_string a h q w))
     where
-      of : {k : AtomKind} → Kinds a k → k ≡ String → StringAtom a
+      of : {k : Option AtomKind} → Kinds a k → k ≡ Some String → StringAtom a
       of (plain h q) e = apart e (λ z. omega (arith, z))
       of (whole h q s) e = string_of a h s
       of (mixed h q s) e = apart e (λ z. omega (arith, z))
       of (none h) e = apart e (λ z. omega (arith, z))
 
   -- "mixed (any other atom)"
-  pub mixed_kind : (kind_of a ≡ Mixed) ↔ (Atom a × (has_quote a ≡ true) × (StringAtom a → ⊥))
+  pub mixed_kind : (kind_of a ≡ Some Mixed) ↔ (Atom a × (has_quote a ≡ true) × (StringAtom a → ⊥))
   mixed_kind = (
     λ e. of (kinds a) e,
     λ h. sym (kind_mixed a ((atom_test a).1 h.0) h.1 (split (is_string a) (λ s. absurd (h.2 (string_of a ((atom_test a).1 h.0) s))) (λ s. s))),
   )
     where
-      of : {k : AtomKind} → Kinds a k → k ≡ Mixed → Atom a × (has_quote a ≡ true) × (StringAtom a → ⊥)
+      of : {k : Option AtomKind} → Kinds a k → k ≡ Some Mixed → Atom a × (has_quote a ≡ true) × (StringAtom a → ⊥)
       of (plain h q) e = apart e (λ z. omega (arith, z))
       of (whole h q s) e = apart e (λ z. omega (arith, z))
       of (mixed h q s) e = ((atom_test a).0 h, q, λ t. false≢true (sym s ∙ (string_atom t).2))
       of (none h) e = apart e (λ z. omega (arith, z))
 
   -- "or no"
-  pub no_kind : (kind_of a ≡ No) ↔ (Atom a → ⊥)
+  pub no_kind : (kind_of a ≡ None) ↔ (Atom a → ⊥)
   no_kind = (
     λ e. of (kinds a) e,
     λ h. sym (kind_no a (split (is_atom a) (λ e. absurd (h ((atom_test a).0 e))) (λ e. e))),
   )
     where
-      of : {k : AtomKind} → Kinds a k → k ≡ No → Atom a → ⊥
+      of : {k : Option AtomKind} → Kinds a k → k ≡ None → Atom a → ⊥
       of (plain h q) e = apart e (λ z. omega (arith, z))
       of (whole h q s) e = apart e (λ z. omega (arith, z))
       of (mixed h q s) e = apart e (λ z. omega (arith, z))

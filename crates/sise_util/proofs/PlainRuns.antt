@@ -11,6 +11,7 @@ use lib.ListN.{length, take, drop, get_or, drop_of_length-le}
 use lib.Seq.{take-length}
 use Rattle.sise_util.specs.Chars.{is_atom_chr}
 use Rattle.sise_util.specs.Atom.{outside, is_atom, all_atom_chrs, has_quote, is_string, kind_of}
+use Rattle.std.specs.Prelude.{Some}
 use Rattle.sise_util.specs.declared.util.AtomKind.TheVariants.{Plain}
 use Rattle.sise_util.specs.Parts.{PlainTo}
 use Rattle.sise_util.proofs.Ranges.{both, and_first, and_second}
@@ -50,7 +51,7 @@ some_atom [] h = absurd (h refl)
 some_atom (b ∷ l) h = refl
 
 -- atom characters alone, one or more, are a plain atom
-pub all_plain : (s : List ℕ) → (length s ≡ 0 → ⊥) → all_atom_chrs s ≡ true → Plain ≡ kind_of s
+pub all_plain : (s : List ℕ) → (length s ≡ 0 → ⊥) → all_atom_chrs s ≡ true → Some Plain ≡ kind_of s
 unfolding outside has_quote
 all_plain s h a =
     let c = ap all_atom_chrs (take-length s) ∙ a in
@@ -58,5 +59,5 @@ all_plain s h a =
     let none = drop_of_length-le s all in
     kind_plain s (sym (some_atom s h) ∙ sym (plain_passes s (length s) c) ∙ ap outside none) (quotes_after s (length s) c ∙ ap has_quote none)
 
-pub plain_all : {s : List ℕ} {n : ℕ} → PlainTo s n → (n ≡ 0 → ⊥) → n ≡ length s → Plain ≡ kind_of s
+pub plain_all : {s : List ℕ} {n : ℕ} → PlainTo s n → (n ≡ 0 → ⊥) → n ≡ length s → Some Plain ≡ kind_of s
 plain_all {s} {n} p z e = all_plain s (λ y. z (e ∙ y)) (sym (ap all_atom_chrs (ap (λ (m : ℕ). take m s) e ∙ take-length s)) ∙ p.chrs)

@@ -12,10 +12,11 @@ use lib.Dec.{T, leb, ltb, leb→le, lit<}
 use lib.ListN.{length, take, drop, get_or, length-append, take-append-drop}
 use lib.Seq.{take_at, take-length, length-take-le, drop_at, drop-append_seam}
 use borrow.Author.Tests.{lt-ltb, le-ltb, ltb-true, ltb-false}
+use Rattle.std.specs.Prelude.{Result, Ok, Err}
 use Rattle.sise_util.specs.Chars.{within}
-use Rattle.sise_util.specs.Utf8.{Range, range, tail, Form, form, forms, Fits, done, octet, Utf8Char, Utf8Octets, none, next, Starts, Subpart, follow, by_rows, character, octets_of, Scalar}
+use Rattle.sise_util.specs.Utf8.{Range, range, tail, Form, form, forms, Fits, done, octet, Utf8Char, Utf8Octets, none, next, Starts, Subpart, well, ill, follow, by_rows, character, octets_of, Scalar}
 use Rattle.sise_util.specs.declared.utf8.Character.{Character}
-use Rattle.sise_util.specs.declared.utf8.Character.TheVariants.{Well, Ill}
+use Rattle.sise_util.specs.declared.utf8.IllFormed.{IllFormed}
 use Rattle.sise_util.proofs.Ranges.{split, and_left, and_right}
 use Rattle.sise_util.proofs.Utf8Steps.{within_yes, within_no, within_from, within_to, Begins, row_of, no_form}
 
@@ -26,7 +27,7 @@ bits_of c (b ∷ s) = bits_of (c * 64 + (b - 0x80)) s
 
 -- octets that fit are read whole
 
-follow_fits : {rs : List Range} {s : List ℕ} → Fits rs s → (c n : ℕ) (l : List ℕ) → follow c n rs (s ++ l) ≡ Well (bits_of c s) n
+follow_fits : {rs : List Range} {s : List ℕ} → Fits rs s → (c n : ℕ) (l : List ℕ) → follow c n rs (s ++ l) ≡ well (bits_of c s) n
 unfolding follow bits_of
 follow_fits done c n l = refl
 follow_fits (octet {r} {b = b} {l = s} h k i) c n l = rw (within_yes r.lo r.hi b h k, follow) (follow_fits i (c * 64 + (b - 0x80)) n l)
@@ -87,17 +88,17 @@ fits_length done = refl
 fits_length (octet h k i) = ap suc (fits_length i)
 
 -- a character of a row is read whole, whatever follows it
-row_read : (f : Form) → Memᴰ f forms → {s : List ℕ} → Fits (f.first ∷ f.rest) s → (l : List ℕ) → character (s ++ l) ≡ Well (code_point f s) (length s)
+row_read : (f : Form) → Memᴰ f forms → {s : List ℕ} → Fits (f.first ∷ f.rest) s → (l : List ℕ) → character (s ++ l) ≡ well (code_point f s) (length s)
 unfolding character code_point forms
 row_read f m (octet {b = b} {l = s} h k i) l =
     member_row 0 forms tt m b (s ++ l) (h, k)
     ∙ follow_fits i (b - f.mark) (1 + length f.rest) l
-    ∙ ap (Well (bits_of (b - f.mark) s)) (longer (fits_length i))
+    ∙ ap (well (bits_of (b - f.mark) s)) (longer (fits_length i))
   where
     longer : length f.rest ≡ length s → 1 + length f.rest ≡ suc (length s)
     longer e = omega arith
 
-pub reads_char : {s : List ℕ} (u : Utf8Char s) (l : List ℕ) → character (s ++ l) ≡ Well (code_point u.row s) (length s)
+pub reads_char : {s : List ℕ} (u : Utf8Char s) (l : List ℕ) → character (s ++ l) ≡ well (code_point u.row s) (length s)
 reads_char u l = row_read u.row u.listed u.fits l
 
 -- what is read is a character of a row
@@ -111,14 +112,23 @@ record Read (rs : List Range) (c n : ℕ) (l : List ℕ) (d k : ℕ) : Type 0 wh
   code : d ≡ bits_of c octets
   count : k ≡ n
 
-pub ill≢well : {j d k : ℕ} → Ill j ≡ Well d k → ⊥
+-- what the two kinds of answer hold
+abbrev code_in : Result Character IllFormed → ℕ
+code_in (Ok c) = c.code
+code_in (Err i) = 0
+
+abbrev pub size_in : Result Character IllFormed → ℕ
+size_in (Ok c) = c.len
+size_in (Err i) = i.len
+
+pub ill≢well : {j d k : ℕ} → ill j ≡ well d k → ⊥
 ill≢well e = let z : ◌≡◌ {A = ℕ} 0 1 = cc in omega arith
 
 follow_hit : (r : Range) (rs : List Range) (c n b : ℕ) (l : List ℕ) → within r.lo r.hi b ≡ true → follow c n (r ∷ rs) (b ∷ l) ≡ follow (c * 64 + (b - 0x80)) n rs l
 unfolding follow
 follow_hit r rs c n b l w = rw (w, follow)
 
-follow_miss : (r : Range) (rs : List Range) (c n b : ℕ) (l : List ℕ) → within r.lo r.hi b ≡ false → follow c n (r ∷ rs) (b ∷ l) ≡ Ill (n - suc (length rs))
+follow_miss : (r : Range) (rs : List Range) (c n b : ℕ) (l : List ℕ) → within r.lo r.hi b ≡ false → follow c n (r ∷ rs) (b ∷ l) ≡ ill (n - suc (length rs))
 unfolding follow
 follow_miss r rs c n b l w = rw (w, follow)
 
@@ -134,9 +144,9 @@ one_more r {b = b} w x =
       count = x.count;
     }
 
-follow_read : (rs : List Range) (c n : ℕ) (l : List ℕ) {d k : ℕ} → follow c n rs l ≡ Well d k → Read rs c n l d k
+follow_read : (rs : List Range) (c n : ℕ) (l : List ℕ) {d k : ℕ} → follow c n rs l ≡ well d k → Read rs c n l d k
 unfolding follow bits_of
-follow_read [] c n l e = record { octets = []; left = l; parts = refl; fits = done; code = cc; count = cc }
+follow_read [] c n l e = record { octets = []; left = l; parts = refl; fits = done; code = sym (ap code_in e); count = sym (ap size_in e) }
 follow_read (r ∷ rs) c n [] e = absurd (ill≢well e)
 follow_read (r ∷ rs) c n (b ∷ l) e =
     split (within r.lo r.hi b)
@@ -176,7 +186,7 @@ here f fs b l {d} {k} w x =
     count : length f.rest ≡ length x.octets → k ≡ suc (length x.octets)
     count e = let z : k ≡ 1 + length f.rest = x.count in omega arith
 
-found_in : (fs : List Form) (l : List ℕ) {d k : ℕ} → by_rows fs l ≡ Well d k → Found fs l d k
+found_in : (fs : List Form) (l : List ℕ) {d k : ℕ} → by_rows fs l ≡ well d k → Found fs l d k
 unfolding by_rows
 found_in [] [] e = absurd (ill≢well e)
 found_in [] (b ∷ l) e = absurd (ill≢well e)
@@ -188,12 +198,12 @@ found_in (f ∷ fs) (b ∷ l) e =
     here f fs b l w (follow_read f.rest (b - f.mark) (1 + length f.rest) l (sym (row_taken f fs b l i) ∙ e)))
     (λ w. later (found_in fs (b ∷ l) (sym (row_passed f fs b l (λ h k. true≢false (sym (within_yes f.first.lo f.first.hi b h k) ∙ w))) ∙ e)))
 
-pub found : (l : List ℕ) {d k : ℕ} → character l ≡ Well d k → Found forms l d k
+pub found : (l : List ℕ) {d k : ℕ} → character l ≡ well d k → Found forms l d k
 unfolding character
 found l e = found_in forms l e
 
 -- a character has at least one byte, and lies within the bytes that begin with it
-pub size_fits : (l : List ℕ) {c k : ℕ} → character l ≡ Well c k → (1 ≤ k) × (k ≤ length l)
+pub size_fits : (l : List ℕ) {c k : ℕ} → character l ≡ well c k → (1 ≤ k) × (k ≤ length l)
 size_fits l {c} {k} e =
     let x = found l e in
     let n : k ≡ length x.octets = x.count in
@@ -214,7 +224,7 @@ all_of s (b ∷ t) l e h = absurd (more (ap length e ∙ length-append s (b ∷ 
     more z = omega arith
 
 -- a byte string is a well-formed character exactly if it matches a row
-pub well_formed : (s : List ℕ) → ((c : ℕ) × (character s ≡ Well c (length s))) ↔ Utf8Char s
+pub well_formed : (s : List ℕ) → ((c : ℕ) × (character s ≡ well c (length s))) ↔ Utf8Char s
 well_formed s = (
   λ w.
       let x = found s w.1 in
@@ -223,15 +233,15 @@ well_formed s = (
 )
 
 -- no character is well formed exactly where no prefix of the bytes matches a row
-pub ill_formed_lem : (l : List ℕ) → ((n : ℕ) × (character l ≡ Ill n)) ↔ ((k : ℕ) → Utf8Char (take k l) → ⊥)
+pub ill_formed_lem : (l : List ℕ) → ((n : ℕ) × (character l ≡ ill n)) ↔ ((k : ℕ) → Utf8Char (take k l) → ⊥)
 ill_formed_lem l = (λ w k u. ill≢well (sym w.1 ∙ ap character (sym (take-append-drop k l)) ∙ reads_char u (drop k l)), λ h. go h (character l) refl)
   where
-    go : ((k : ℕ) → Utf8Char (take k l) → ⊥) → (c : Character) → character l ≡ c → (n : ℕ) × (character l ≡ Ill n)
-    go h (Well c k) e =
+    go : ((k : ℕ) → Utf8Char (take k l) → ⊥) → (c : Result Character IllFormed) → character l ≡ c → (n : ℕ) × (character l ≡ ill n)
+    go h (Ok c) e =
         let x = found l e in
-        let s : take k l ≡ x.octets = ap (take k) x.parts ∙ take_at x.octets x.left k (sym x.count) in
-        absurd (h k (subst Utf8Char (sym s) (record { row = x.row; listed = x.listed; fits = x.fits })))
-    go h (Ill n) e = (n, e)
+        let s : take c.len l ≡ x.octets = ap (take c.len) x.parts ∙ take_at x.octets x.left c.len (sym x.count) in
+        absurd (h c.len (subst Utf8Char (sym s) (record { row = x.row; listed = x.listed; fits = x.fits })))
+    go h (Err i) e = (i.len, e)
 
 -- what is ill formed: how many bytes stand for the broken character
 
@@ -257,9 +267,9 @@ lows_fit : (rs : List Range) → T (filled rs) → Fits rs (lows rs)
 lows_fit [] t = done
 lows_fit (r ∷ rs) t = octet (le_refl r.lo) (leb→le r.lo r.hi (and_left (leb r.lo r.hi) (filled rs) t)) (lows_fit rs (and_right (leb r.lo r.hi) (filled rs) t))
 
-broken_here : (r : Range) (rs : List Range) (l : List ℕ) (m n k : ℕ) → T (filled (r ∷ rs)) → n ≡ m + suc (length rs) → Ill (n - suc (length rs)) ≡ Ill k → Broken (r ∷ rs) l m k
+broken_here : (r : Range) (rs : List Range) (l : List ℕ) (m n k : ℕ) → T (filled (r ∷ rs)) → n ≡ m + suc (length rs) → ill (n - suc (length rs)) ≡ ill k → Broken (r ∷ rs) l m k
 broken_here r rs l m n k t h e =
-    let z : n - suc (length rs) ≡ k = cc in
+    let z = ap size_in e in
     record { octets = []; left = l; due = lows (r ∷ rs); parts = refl; fits = lows_fit (r ∷ rs) t; count = omega arith }
 
 broken_next : (r : Range) {rs : List Range} (b : ℕ) {l : List ℕ} {m k : ℕ} → within r.lo r.hi b ≡ true → Broken rs l (suc m) k → Broken (r ∷ rs) (b ∷ l) m k
@@ -276,7 +286,7 @@ broken_next r b {m = m} {k} w x =
     longer : k ≡ suc m + length x.octets → k ≡ m + suc (length x.octets)
     longer e = omega arith
 
-follow_broken : (rs : List Range) (c n : ℕ) (l : List ℕ) {m k : ℕ} → T (filled rs) → n ≡ m + length rs → follow c n rs l ≡ Ill k → Broken rs l m k
+follow_broken : (rs : List Range) (c n : ℕ) (l : List ℕ) {m k : ℕ} → T (filled rs) → n ≡ m + length rs → follow c n rs l ≡ ill k → Broken rs l m k
 unfolding follow
 follow_broken [] c n l t h e = absurd (ill≢well (sym e))
 follow_broken (r ∷ rs) c n [] {m} {k} t h e = broken_here r rs [] m n k t h e
@@ -286,8 +296,8 @@ follow_broken (r ∷ rs) c n (b ∷ l) {m} {k} t h e =
     (λ w. broken_here r rs (b ∷ l) m n k t h (sym (follow_miss r rs c n b l w) ∙ e))
 
 -- what is broken stays so, whatever follows the octet that does not fit
-follow_stays : (rs : List Range) (c n m : ℕ) (p q : List ℕ) {k : ℕ} → T (filled rs) → n ≡ m + length rs → follow c n rs (p ++ q) ≡ Ill k → k < m + length p → (t : List ℕ)
-    → follow c n rs (p ++ t) ≡ Ill k
+follow_stays : (rs : List Range) (c n m : ℕ) (p q : List ℕ) {k : ℕ} → T (filled rs) → n ≡ m + length rs → follow c n rs (p ++ q) ≡ ill k → k < m + length p → (t : List ℕ)
+    → follow c n rs (p ++ t) ≡ ill k
 unfolding follow
 follow_stays [] c n m p q t h e d u = absurd (ill≢well (sym e))
 follow_stays (r ∷ rs) c n m [] q {k} t h e d u = let z : k ≡ m + length x.octets = x.count in absurd (omega arith)
@@ -314,9 +324,9 @@ broken_later : {f : Form} {fs : List Form} {b : ℕ} {l : List ℕ} {k : ℕ} �
 broken_later (lone e) = lone e
 broken_later (cut g i j x) = cut g (Memᴰ.tail i) j x
 
-broken_in : (fs : List Form) (b : ℕ) (l : List ℕ) {k : ℕ} → T (all_filled fs) → by_rows fs (b ∷ l) ≡ Ill k → BrokenIn fs b l k
+broken_in : (fs : List Form) (b : ℕ) (l : List ℕ) {k : ℕ} → T (all_filled fs) → by_rows fs (b ∷ l) ≡ ill k → BrokenIn fs b l k
 unfolding by_rows
-broken_in [] b l t e = lone cc
+broken_in [] b l t e = lone (sym (ap size_in e))
 broken_in (f ∷ fs) b l t e =
     split (within f.first.lo f.first.hi b)
     (λ w.
@@ -325,7 +335,7 @@ broken_in (f ∷ fs) b l t e =
     (follow_broken f.rest (b - f.mark) (1 + length f.rest) l (and_left (filled f.rest) (all_filled fs) t) refl (sym (row_taken f fs b l i) ∙ e)))
     (λ w. broken_later (broken_in fs b l (and_right (filled f.rest) (all_filled fs) t) (sym (row_passed f fs b l (λ h k. true≢false (sym (within_yes f.first.lo f.first.hi b h k) ∙ w))) ∙ e)))
 
-rows_stay : (fs : List Form) (b : ℕ) (p q : List ℕ) {k : ℕ} → T (all_filled fs) → by_rows fs (b ∷ p ++ q) ≡ Ill k → k < suc (length p) → (u : List ℕ) → by_rows fs (b ∷ p ++ u) ≡ Ill k
+rows_stay : (fs : List Form) (b : ℕ) (p q : List ℕ) {k : ℕ} → T (all_filled fs) → by_rows fs (b ∷ p ++ q) ≡ ill k → k < suc (length p) → (u : List ℕ) → by_rows fs (b ∷ p ++ u) ≡ ill k
 unfolding by_rows
 rows_stay [] b p q t e d u = e
 rows_stay (f ∷ fs) b p q t e d u =
@@ -339,7 +349,7 @@ rows_stay (f ∷ fs) b p q t e d u =
     row_passed f fs b (p ++ u) o ∙ rows_stay fs b p q (and_right (filled f.rest) (all_filled fs) t) (sym (row_passed f fs b (p ++ q) o) ∙ e) d u)
 
 -- the bytes that stand for a broken character are the longest start of a character found there, at least one byte
-pub broken_subpart : (b : ℕ) (l : List ℕ) {k : ℕ} → character (b ∷ l) ≡ Ill k → Subpart (b ∷ l) k
+pub broken_subpart : (b : ℕ) (l : List ℕ) {k : ℕ} → character (b ∷ l) ≡ ill k → Subpart (b ∷ l) k
 unfolding character forms
 broken_subpart b l {k} e = go (broken_in forms b l tt e)
   where
@@ -366,9 +376,9 @@ broken_subpart b l {k} e = go (broken_in forms b l tt e)
         }
 
 -- and they never pass the end
-pub broken_fits : (l : List ℕ) {k : ℕ} → character l ≡ Ill k → k ≤ length l
+pub broken_fits : (l : List ℕ) {k : ℕ} → character l ≡ ill k → k ≤ length l
 unfolding character by_rows forms
-broken_fits [] {k} e = let z : 0 ≡ k = cc in omega arith
+broken_fits [] {k} e = let z = ap size_in e in omega arith
 broken_fits (b ∷ l) e = (broken_subpart b l e).inside
 
 -- there is one such number
@@ -496,11 +506,11 @@ found_encodes : {l : List ℕ} {c k : ℕ} (x : Found forms l c k) → Encodes c
 found_encodes x = subst (λ (d : ℕ). Encodes d x.octets) (sym x.code) (all_member Sound forms rows_sound x.listed x.octets x.fits)
 
 -- the code point of a well-formed character is below 0x110000, and no surrogate
-pub scalar_value : (l : List ℕ) {c k : ℕ} → character l ≡ Well c k → Scalar c
+pub scalar_value : (l : List ℕ) {c k : ℕ} → character l ≡ well c k → Scalar c
 scalar_value l e = (found_encodes (found l e)).scalar
 
 -- a well-formed character has the octets of its code point
-pub its_octets : (l : List ℕ) {c k : ℕ} → character l ≡ Well c k → take k l ≡ octets_of c
+pub its_octets : (l : List ℕ) {c k : ℕ} → character l ≡ well c k → take k l ≡ octets_of c
 its_octets l {c} {k} e =
     let x = found l e in
     ap (take k) x.parts ∙ take_at x.octets x.left k (sym x.count) ∙ sym (found_encodes x).back
@@ -573,25 +583,25 @@ encode c s =
     (λ e₂. subst (Encoded c) (sym (four_octets c e₂)) (encode₄ c e₂ s.below))))
 
 -- each scalar value has exactly one byte string
-pub one_string : (c : ℕ) → Scalar c → (s : List ℕ) → (character s ≡ Well c (length s)) ↔ (s ≡ octets_of c)
+pub one_string : (c : ℕ) → Scalar c → (s : List ℕ) → (character s ≡ well c (length s)) ↔ (s ≡ octets_of c)
 one_string c v s = (
   λ e. sym (take-length s) ∙ its_octets s e,
   λ e.
       let x = encode c v in
-      ap character (e ∙ sym (append-nil (octets_of c))) ∙ reads_char x.char [] ∙ ap₂ Well x.code (ap length (sym e)),
+      ap character (e ∙ sym (append-nil (octets_of c))) ∙ reads_char x.char [] ∙ ap₂ well x.code (ap length (sym e)),
 )
 
 -- a byte below 0x80 is a character of its own
-pub ascii : (b : ℕ) (l : List ℕ) → b < 0x80 → character (b ∷ l) ≡ Well b 1
+pub ascii : (b : ℕ) (l : List ℕ) → b < 0x80 → character (b ∷ l) ≡ well b 1
 unfolding character forms follow
-ascii b l h = row_taken (form 0x00 (range 0x00 0x7F) []) _ b l (zero-le, omega arith) ∙ ap (λ (n : ℕ). Well n 1) (sub-zero b)
+ascii b l h = row_taken (form 0x00 (range 0x00 0x7F) []) _ b l (zero-le, omega arith) ∙ ap (λ (n : ℕ). well n 1) (sub-zero b)
 
 -- valid UTF-8 is read character by character
 
 pub record ValidStep (l : List ℕ) : Type 0 where
   pub code : ℕ
   pub size : ℕ
-  pub well : character l ≡ Well code size
+  pub well : character l ≡ well code size
   pub left : Utf8Octets (drop size l)
 
 -- what is valid is empty, or begins with a character after which the rest is valid
@@ -601,7 +611,7 @@ valid_step (next {s} {l} u v) =
     inr (record { code = code_point u.row s; size = length s; well = reads_char u l; left = subst Utf8Octets (sym (drop-append_seam s l)) v })
 
 -- and the other way round
-pub step_valid : (l : List ℕ) {c k : ℕ} → character l ≡ Well c k → Utf8Octets (drop k l) → Utf8Octets l
+pub step_valid : (l : List ℕ) {c k : ℕ} → character l ≡ well c k → Utf8Octets (drop k l) → Utf8Octets l
 step_valid l {c} {k} e v =
     let x = found l e in
     let u : Utf8Char x.octets = record { row = x.row; listed = x.listed; fits = x.fits } in

@@ -8,11 +8,12 @@ use native.Mathlib.Omega.{arith}
 use lib.Dec.{leb, ltb}
 use lib.ListN.{length, take, drop, get_or, drop_of_length-le, get_or-eq_default}
 use borrow.Author.Tests.{le-leb, leb-true, ltb-true, ltb-false}
+use Rattle.std.specs.Prelude.{Result}
 use Rattle.sise_util.specs.Chars.{within}
 use Rattle.sise_util.specs.Parts.{OctetAt, FirstTwo}
-use Rattle.sise_util.specs.Utf8.{Range, range, Form, form, forms, follow, by_rows, character}
+use Rattle.sise_util.specs.Utf8.{Range, range, Form, form, forms, well, ill, follow, by_rows, character}
 use Rattle.sise_util.specs.declared.utf8.Character.{Character}
-use Rattle.sise_util.specs.declared.utf8.Character.TheVariants.{Well, Ill}
+use Rattle.sise_util.specs.declared.utf8.IllFormed.{IllFormed}
 use Rattle.sise_util.proofs.Lists.{drop-next}
 use Rattle.sise_util.proofs.Ranges.{split, and_first, and_second}
 
@@ -45,14 +46,14 @@ hit {text} {at} {o} s lo hi p from to c n rs =
 
 -- out of the range: the octets before it are the start
 pub miss : {text : List ℕ} {at o : ℕ} → OctetAt text at o → (lo hi : ℕ) → (lo ≤ o → o ≤ hi → ⊥) → (c n : ℕ) (rs : List Range)
-    → Ill (n - suc (length rs)) ≡ follow c n (range lo hi ∷ rs) (drop at text)
+    → ill (n - suc (length rs)) ≡ follow c n (range lo hi ∷ rs) (drop at text)
 unfolding follow
 miss {text} {at} {o} s lo hi d c n rs =
     split (ltb at (length text))
     (λ t. sym (ap (follow c n (range lo hi ∷ rs)) (stands_next s (ltb-true at (length text) t)) ∙ rw (within_no lo hi o d, follow)))
     (λ t. sym (ap (follow c n (range lo hi ∷ rs)) (drop_of_length-le text (ltb-false at (length text) t))))
 
-pub ends : (c n : ℕ) (l : List ℕ) → follow c n [] l ≡ Well c n
+pub ends : (c n : ℕ) (l : List ℕ) → follow c n [] l ≡ well c n
 unfolding follow
 ends c n l = refl
 
@@ -70,7 +71,7 @@ no_form = form 0 (range 1 0) []
 abbrev pub Begins : ℕ → Form → Type 0
 Begins b f = (f.first.lo ≤ b) × (b ≤ f.first.hi)
 
-abbrev pub row_of : Form → ℕ → List ℕ → Character
+abbrev pub row_of : Form → ℕ → List ℕ → Result Character IllFormed
 row_of f b l = follow (b - f.mark) (1 + length f.rest) f.rest l
 
 -- the standard's row k
@@ -83,7 +84,7 @@ nth_row [] k b l o i = absurd (omega arith)
 nth_row (f ∷ fs) zero b l o i = sym (rw (within_yes f.first.lo f.first.hi b i.0 i.1, by_rows))
 nth_row (f ∷ fs) (suc k) b l o i = nth_row fs k b l o.1 i ∙ sym (rw (within_no f.first.lo f.first.hi b o.0, by_rows))
 
-no_row : (fs : List Form) (b : ℕ) (l : List ℕ) → Outside b fs → Ill 1 ≡ by_rows fs (b ∷ l)
+no_row : (fs : List Form) (b : ℕ) (l : List ℕ) → Outside b fs → ill 1 ≡ by_rows fs (b ∷ l)
 unfolding by_rows
 no_row [] b l o = refl
 no_row (f ∷ fs) b l o = no_row fs b l o.1 ∙ sym (rw (within_no f.first.lo f.first.hi b o.0, by_rows))
@@ -94,7 +95,7 @@ module _ {l : List ℕ} {lead second : ℕ} (s : FirstTwo l lead second) where
   unfolding character
   row_at k o i = nth_row forms k lead (drop 1 l) o i ∙ ap (by_rows forms) (sym (stands_next s.first s.some))
 
-  pub no_row_at : Outside lead forms → Ill 1 ≡ character l
+  pub no_row_at : Outside lead forms → ill 1 ≡ character l
   unfolding character
   no_row_at o = no_row forms lead (drop 1 l) o ∙ ap (by_rows forms) (sym (stands_next s.first s.some))
 
@@ -107,13 +108,13 @@ module _ {l : List ℕ} {lead second : ℕ} (s : FirstTwo l lead second) where
       ∙ row_at k o i
 
   -- it is not
-  pub stops : (k : ℕ) {r : Range} {rs : List Range} → (row k).rest ≡ r ∷ rs → Outside lead (take k forms) → Begins lead (row k) → (r.lo ≤ second → second ≤ r.hi → ⊥) → Ill 1 ≡ character l
+  pub stops : (k : ℕ) {r : Range} {rs : List Range} → (row k).rest ≡ r ∷ rs → Outside lead (take k forms) → Begins lead (row k) → (r.lo ≤ second → second ≤ r.hi → ⊥) → ill 1 ≡ character l
   stops k {r} {rs} e o i d =
-      ap Ill (let z = ap length e in omega arith)
+      ap ill (let z = ap length e in omega arith)
       ∙ miss s.next r.lo r.hi d (lead - (row k).mark) (1 + length (row k).rest) rs
       ∙ sym (ap (λ (m : List Range). follow (lead - (row k).mark) (1 + length (row k).rest) m (drop 1 l)) e)
       ∙ row_at k o i
 
-pub none_at : (text : List ℕ) (at : ℕ) → length text ≤ at → Ill 0 ≡ character (drop at text)
+pub none_at : (text : List ℕ) (at : ℕ) → length text ≤ at → ill 0 ≡ character (drop at text)
 unfolding character by_rows forms
 none_at text at h = ap (by_rows forms) (sym (drop_of_length-le text h))

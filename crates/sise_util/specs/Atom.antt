@@ -1,10 +1,10 @@
 -- An atom (document 01: "An atom is one or more of: an atom character; a string"): the grammar as a family of byte strings, and the test.
 -- Assumes nothing.
-use Rattle.std.specs.Prelude.{ℕ, ◌≡◌, Bool, true, false, ◌&&◌, ◌||◌, cond, List, [], ◌∷◌, ◌++◌, leb, eqb, length, take}
+use Rattle.std.specs.Prelude.{ℕ, ◌≡◌, Option, Some, None, Bool, true, false, ◌&&◌, ◌||◌, cond, List, [], ◌∷◌, ◌++◌, leb, eqb, length, take}
 use Rattle.sise_util.specs.Chars.{is_atom_chr, is_string_chr, is_escaped_chr}
 use Rattle.sise_util.specs.Classes.{space, quote, tab, atom_chr, line_end, backslash, other, semicolon, left, right, printable, class_of}
 use Rattle.sise_util.specs.declared.util.AtomKind.{AtomKind}
-use Rattle.sise_util.specs.declared.util.AtomKind.TheVariants.{Plain, String, Mixed, No}
+use Rattle.sise_util.specs.declared.util.AtomKind.TheVariants.{Plain, String, Mixed}
 
 -- what stands between the two " of a string: string characters, or \ followed by a string character, " or \
 pub data Inside : List ℕ → Type 0 where
@@ -106,27 +106,20 @@ unfoldable pub is_string : List ℕ → Bool
 is_string [] = false
 is_string (b ∷ l) = eqb b 34 && ends_string l
 
-unfoldable pub kind_of : List ℕ → AtomKind
-kind_of a = cond (is_atom a) (cond (has_quote a) (cond (is_string a) String Mixed) Plain) No
+unfoldable pub kind_of : List ℕ → Option AtomKind
+kind_of a = cond (is_atom a) (cond (has_quote a) (cond (is_string a) (Some String) (Some Mixed)) (Some Plain)) None
 
 -- "Tables hold 1, 2 or 3 (plain, string, mixed) as an atom's first word"
-abbrev pub kind_number : AtomKind → ℕ
-kind_number Plain = 1
-kind_number String = 2
-kind_number Mixed = 3
-kind_number No = 0
-
--- "Putting an atom needs only whether it is no"
-abbrev pub is_kind : AtomKind → Bool
-is_kind Plain = true
-is_kind String = true
-is_kind Mixed = true
-is_kind No = false
+abbrev pub kind_number : Option AtomKind → ℕ
+kind_number (Some Plain) = 1
+kind_number (Some String) = 2
+kind_number (Some Mixed) = 3
+kind_number None = 0
 
 -- ---- the check of tree calls: the first n bytes of the rest of a text; "a length past that part is 17"
 
-unfoldable pub kind_prefix : List ℕ → ℕ → AtomKind
-kind_prefix rest n = cond (leb n (length rest)) (kind_of (take n rest)) No
+unfoldable pub kind_prefix : List ℕ → ℕ → Option AtomKind
+kind_prefix rest n = cond (leb n (length rest)) (kind_of (take n rest)) None
 
 unfoldable pub is_atom_prefix : List ℕ → ℕ → Bool
 is_atom_prefix rest n = leb n (length rest) && is_atom (take n rest)

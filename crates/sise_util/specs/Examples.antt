@@ -1,13 +1,12 @@
 -- What the definitions say of worked examples, by computation: document 01's atoms, RFC 3629's own characters (section 7), and the characters on
 -- each side of every border of its rows.
 -- Assumes nothing.
-use Rattle.std.specs.Prelude.{◌≡◌, refl, true, false, [], ◌∷◌, map}
+use Rattle.std.specs.Prelude.{◌≡◌, refl, true, false, Some, None, [], ◌∷◌, map}
 use Rattle.sise_util.specs.Chars.{within}
 use Rattle.sise_util.specs.Classes.{class_of}
 use Rattle.sise_util.specs.Atom.{outside, inside, escaped, is_atom, has_quote, ends_string, ends_escaped, is_string, kind_of}
-use Rattle.sise_util.specs.Utf8.{forms, follow, by_rows, character}
-use Rattle.sise_util.specs.declared.util.AtomKind.TheVariants.{Plain, String, Mixed, No}
-use Rattle.sise_util.specs.declared.utf8.Character.TheVariants.{Well, Ill}
+use Rattle.sise_util.specs.Utf8.{well, ill, forms, follow, by_rows, character}
+use Rattle.sise_util.specs.declared.util.AtomKind.TheVariants.{Plain, String, Mixed}
 
 -- a  ""  "a b"  a"b"c  "\""  "\\"
 atoms : map is_atom (
@@ -48,7 +47,7 @@ kinds : map kind_of (
     (0x22 ∷ 0x61 ∷ 0x22 ∷ 0x62 ∷ []) ∷
     (0x22 ∷ []) ∷
     (0x22 ∷ 0x61 ∷ 0x22 ∷ 0x5C ∷ []) ∷
-    []) ≡ Plain ∷ String ∷ String ∷ Mixed ∷ Mixed ∷ String ∷ Mixed ∷ No ∷ No ∷ []
+    []) ≡ Some Plain ∷ Some String ∷ Some String ∷ Some Mixed ∷ Some Mixed ∷ Some String ∷ Some Mixed ∷ None ∷ None ∷ []
 unfolding kind_of is_atom outside inside escaped has_quote is_string ends_string ends_escaped class_of
 kinds = refl
 
@@ -59,7 +58,7 @@ rfc_1 : map character (
     (0xE2 ∷ 0x89 ∷ 0xA2 ∷ 0xCE ∷ 0x91 ∷ 0x2E ∷ []) ∷
     (0xCE ∷ 0x91 ∷ 0x2E ∷ []) ∷
     (0x2E ∷ []) ∷
-    []) ≡ Well 0x0041 1 ∷ Well 0x2262 3 ∷ Well 0x0391 2 ∷ Well 0x002E 1 ∷ []
+    []) ≡ well 0x0041 1 ∷ well 0x2262 3 ∷ well 0x0391 2 ∷ well 0x002E 1 ∷ []
 unfolding character by_rows forms follow within
 rfc_1 = refl
 
@@ -68,7 +67,7 @@ rfc_2 : map character (
     (0xED ∷ 0x95 ∷ 0x9C ∷ 0xEA ∷ 0xB5 ∷ 0xAD ∷ 0xEC ∷ 0x96 ∷ 0xB4 ∷ []) ∷
     (0xEA ∷ 0xB5 ∷ 0xAD ∷ 0xEC ∷ 0x96 ∷ 0xB4 ∷ []) ∷
     (0xEC ∷ 0x96 ∷ 0xB4 ∷ []) ∷
-    []) ≡ Well 0xD55C 3 ∷ Well 0xAD6D 3 ∷ Well 0xC5B4 3 ∷ []
+    []) ≡ well 0xD55C 3 ∷ well 0xAD6D 3 ∷ well 0xC5B4 3 ∷ []
 unfolding character by_rows forms follow within
 rfc_2 = refl
 
@@ -77,7 +76,7 @@ rfc_3 : map character (
     (0xE6 ∷ 0x97 ∷ 0xA5 ∷ 0xE6 ∷ 0x9C ∷ 0xAC ∷ 0xE8 ∷ 0xAA ∷ 0x9E ∷ []) ∷
     (0xE6 ∷ 0x9C ∷ 0xAC ∷ 0xE8 ∷ 0xAA ∷ 0x9E ∷ []) ∷
     (0xE8 ∷ 0xAA ∷ 0x9E ∷ []) ∷
-    []) ≡ Well 0x65E5 3 ∷ Well 0x672C 3 ∷ Well 0x8A9E 3 ∷ []
+    []) ≡ well 0x65E5 3 ∷ well 0x672C 3 ∷ well 0x8A9E 3 ∷ []
 unfolding character by_rows forms follow within
 rfc_3 = refl
 
@@ -85,7 +84,7 @@ rfc_3 = refl
 rfc_4 : map character (
     (0xEF ∷ 0xBB ∷ 0xBF ∷ 0xF0 ∷ 0xA3 ∷ 0x8E ∷ 0xB4 ∷ []) ∷
     (0xF0 ∷ 0xA3 ∷ 0x8E ∷ 0xB4 ∷ []) ∷
-    []) ≡ Well 0xFEFF 3 ∷ Well 0x233B4 4 ∷ []
+    []) ≡ well 0xFEFF 3 ∷ well 0x233B4 4 ∷ []
 unfolding character by_rows forms follow within
 rfc_4 = refl
 
@@ -110,24 +109,24 @@ row_borders : map character (
     (0xF4 ∷ 0x80 ∷ 0x80 ∷ 0x80 ∷ []) ∷
     (0xF4 ∷ 0x8F ∷ 0xBF ∷ 0xBF ∷ []) ∷
     []) ≡
-    Well 0x0000 1 ∷
-    Well 0x007F 1 ∷
-    Well 0x0080 2 ∷
-    Well 0x07FF 2 ∷
-    Well 0x0800 3 ∷
-    Well 0x0FFF 3 ∷
-    Well 0x1000 3 ∷
-    Well 0xCFFF 3 ∷
-    Well 0xD000 3 ∷
-    Well 0xD7FF 3 ∷
-    Well 0xE000 3 ∷
-    Well 0xFFFF 3 ∷
-    Well 0x10000 4 ∷
-    Well 0x3FFFF 4 ∷
-    Well 0x40000 4 ∷
-    Well 0xFFFFF 4 ∷
-    Well 0x100000 4 ∷
-    Well 0x10FFFF 4 ∷
+    well 0x0000 1 ∷
+    well 0x007F 1 ∷
+    well 0x0080 2 ∷
+    well 0x07FF 2 ∷
+    well 0x0800 3 ∷
+    well 0x0FFF 3 ∷
+    well 0x1000 3 ∷
+    well 0xCFFF 3 ∷
+    well 0xD000 3 ∷
+    well 0xD7FF 3 ∷
+    well 0xE000 3 ∷
+    well 0xFFFF 3 ∷
+    well 0x10000 4 ∷
+    well 0x3FFFF 4 ∷
+    well 0x40000 4 ∷
+    well 0xFFFFF 4 ∷
+    well 0x100000 4 ∷
+    well 0x10FFFF 4 ∷
     []
 unfolding character by_rows forms follow within
 row_borders = refl
@@ -162,7 +161,7 @@ ill_formed_lem : map character (
     (0xC2 ∷ []) ∷
     (0xE1 ∷ 0x80 ∷ []) ∷
     (0xF1 ∷ 0x80 ∷ 0x80 ∷ []) ∷
-    []) ≡ map Ill (1 ∷ 1 ∷ 1 ∷ 1 ∷ 1 ∷ 1 ∷ 1 ∷ 1 ∷ 1 ∷ 2 ∷ 1 ∷ 1 ∷ 1 ∷ 2 ∷ 1 ∷ 1 ∷ 1 ∷ 2 ∷ 2 ∷ 1 ∷ 1 ∷ 1 ∷ 1 ∷ 0 ∷ 1 ∷ 2 ∷ 3 ∷ [])
+    []) ≡ map ill (1 ∷ 1 ∷ 1 ∷ 1 ∷ 1 ∷ 1 ∷ 1 ∷ 1 ∷ 1 ∷ 2 ∷ 1 ∷ 1 ∷ 1 ∷ 2 ∷ 1 ∷ 1 ∷ 1 ∷ 2 ∷ 2 ∷ 1 ∷ 1 ∷ 1 ∷ 1 ∷ 0 ∷ 1 ∷ 2 ∷ 3 ∷ [])
 unfolding character by_rows forms follow within
 ill_formed_lem = refl
 
@@ -177,6 +176,6 @@ subparts : map character (
     (0xF1 ∷ 0x80 ∷ 0x80 ∷ 0x41 ∷ []) ∷
     (0xF0 ∷ 0x90 ∷ 0x80 ∷ []) ∷
     (0xC3 ∷ []) ∷
-    []) ≡ map Ill (2 ∷ 1 ∷ 1 ∷ 1 ∷ 1 ∷ 3 ∷ 3 ∷ 1 ∷ [])
+    []) ≡ map ill (2 ∷ 1 ∷ 1 ∷ 1 ∷ 1 ∷ 3 ∷ 3 ∷ 1 ∷ [])
 unfolding character by_rows forms follow within
 subparts = refl

@@ -1,10 +1,10 @@
 -- A character by RFC 3629: the syntax of its octets (section 4), its code point (section 3), and valid UTF-8; and how many bytes a broken one has.
 -- Assumes nothing.
-use Rattle.std.specs.Prelude.{ℕ, ◌+◌, ◌-◌, ◌*◌, ◌/◌, ◌%◌, ◌≤◌, ◌<◌, ◌≡◌, ◌⊎◌, true, false, cond, ltb, length, take}
+use Rattle.std.specs.Prelude.{ℕ, ◌+◌, ◌-◌, ◌*◌, ◌/◌, ◌%◌, ◌≤◌, ◌<◌, ◌≡◌, ◌⊎◌, true, false, cond, ltb, length, take, Result, Ok, Err}
 use mathlib.Core.List.{List, [], ◌∷◌, ◌++◌, Memᴰ}
 use Rattle.sise_util.specs.Chars.{within}
 use Rattle.sise_util.specs.declared.utf8.Character.{Character}
-use Rattle.sise_util.specs.declared.utf8.Character.TheVariants.{Well, Ill}
+use Rattle.sise_util.specs.declared.utf8.IllFormed.{IllFormed}
 
 pub record Range : Type 0 where
   pub lo : ℕ
@@ -68,22 +68,29 @@ pub record Subpart (l : List ℕ) (k : ℕ) : Type 0 where
   pub starts : (k ≡ 1) ⊎ Starts (take k l)
   pub longest : (j : ℕ) → k < j → j ≤ length l → Starts (take j l) → ⊥
 
+-- a well-formed character of a code point and a number of bytes; and a broken one of a number of bytes
+abbrev pub well : ℕ → ℕ → Result Character IllFormed
+well c n = Ok (record { code = c; len = n })
+
+abbrev pub ill : ℕ → Result Character IllFormed
+ill n = Err (record { len = n })
+
 -- the octets after the first: each in its range, with six more bits of the code point (section 3); c is what the octets before have of it, and n
 -- the number of all octets. Where one is missing or out of its range, those before it are the start of a character: all n but the ones still due
-unfoldable pub follow : ℕ → ℕ → List Range → List ℕ → Character
-follow c n [] l = Well c n
-follow c n (r ∷ rs) [] = Ill (n - length (r ∷ rs))
+unfoldable pub follow : ℕ → ℕ → List Range → List ℕ → Result Character IllFormed
+follow c n [] l = well c n
+follow c n (r ∷ rs) [] = ill (n - length (r ∷ rs))
 follow c n (r ∷ rs) (b ∷ l) =
     elim (within r.lo r.hi b) [
       | true ↦ follow (c * 64 + (b - 0x80)) n rs l
-      | false ↦ Ill (n - length (r ∷ rs))
+      | false ↦ ill (n - length (r ∷ rs))
     ]
 
 -- the row in whose first range the first octet is; an octet that begins no row is one byte (02, 2.7: "at least one byte"), and at the end there is none
-unfoldable pub by_rows : List Form → List ℕ → Character
-by_rows [] [] = Ill 0
-by_rows [] (b ∷ l) = Ill 1
-by_rows (f ∷ fs) [] = Ill 0
+unfoldable pub by_rows : List Form → List ℕ → Result Character IllFormed
+by_rows [] [] = ill 0
+by_rows [] (b ∷ l) = ill 1
+by_rows (f ∷ fs) [] = ill 0
 by_rows (f ∷ fs) (b ∷ l) =
     elim (within f.first.lo f.first.hi b) [
       | true ↦ follow (b - f.mark) (1 + length f.rest) f.rest l
@@ -92,7 +99,7 @@ by_rows (f ∷ fs) (b ∷ l) =
 
 -- the character that the bytes begin with: its code point and its number of bytes; or none that is well formed, and the number of bytes that stand
 -- for one that is broken
-unfoldable pub character : List ℕ → Character
+unfoldable pub character : List ℕ → Result Character IllFormed
 character l = by_rows forms l
 
 -- section 3: "Char. number range" and "UTF-8 octet sequence"

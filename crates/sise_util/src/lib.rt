@@ -6,7 +6,8 @@ mod table;
 mod utf8;
 mod util;
 
-pub use utf8::{Character, character_at};
+pub use utf8::{Character, IllFormed, character_at};
 pub use util::{
     AtomKind, check_atom, check_atom_prefix, is_atom_byte, is_atom_chr, is_atom_string_chr,
+    kind_number,
 };

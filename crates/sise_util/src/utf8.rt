@@ -1,15 +1,20 @@
 // A character by RFC 3629, for the code point of a character that may not stand where it does.
 ghost use Rattle.std.specs.Prelude.{◌≡◌, [], ◌∷◌, ◌+◌, ◌-◌, ◌*◌, ◌≤◌, ◌<◌, drop};
 ghost use Rattle.sise_util.specs.Parts.{OctetAt, FirstTwo};
-ghost use Rattle.sise_util.specs.Utf8.{tail, follow, character};
-ghost use Rattle.sise_util.specs.declared.utf8.Character.TheVariants.{Well};
+ghost use Rattle.sise_util.specs.Utf8.{tail, well, follow, character};
 
-// The character that some bytes begin with: its code point and its number of bytes. Or none that is well formed: then the bytes of the longest start
-// of one, which stand for a broken character: at least one, and 0 only where no byte is.
-#[derive(Clone, Copy)]
-pub enum Character {
-    Well { code: u32, len: usize },
-    Ill { len: usize },
+// The character that some bytes begin with: its code point and its number of bytes.
+#[derive(Clone, Copy, Debug, PartialEq, Eq)]
+pub struct Character {
+    pub code: u32,
+    pub len: usize,
+}
+
+// No well-formed character: the number of bytes of the longest start of one, which stand for a broken character. At least one, and 0 only where no
+// byte is.
+#[derive(Clone, Copy, Debug, PartialEq, Eq)]
+pub struct IllFormed {
+    pub len: usize,
 }
 
 // The free bits of an octet: what is left of it without the bits that mark it.
@@ -24,23 +29,20 @@ fn free_bits(octet: u8, mark: u8) -> u32
 fn octet_at(text: &[u8], at: usize) -> u8
     ensures { OctetAt text.now at result }
 {
-    if text.len() <= at {
-        return 0;
-    }
-    text[at]
+    text.get(at).copied().unwrap_or(0)
 }
 
 // The character of two octets.
-fn two(lead: u8, second: u8) -> Character
+fn two(lead: u8, second: u8) -> Result<Character, IllFormed>
     requires { (0xC0 ≤ lead) × (0x80 ≤ second) }
-    ensures { result ≡ Well ((lead - 0xC0) * 64 + (second - 0x80)) 2 }
+    ensures { result ≡ well ((lead - 0xC0) * 64 + (second - 0x80)) 2 }
 {
     let code = free_bits(lead, 0xC0) * 64 + free_bits(second, 0x80);
-    Character::Well { code, len: 2 }
+    Ok(Character { code, len: 2 })
 }
 
 // After two octets of a character of three: the UTF8-tail that is due.
-fn three(lead: u8, second: u8, rest: &[u8]) -> Character
+fn three(lead: u8, second: u8, rest: &[u8]) -> Result<Character, IllFormed>
     requires { (0xE0 ≤ lead) × (0x80 ≤ second) }
     ensures { result ≡ follow ((lead - 0xE0) * 64 + (second - 0x80)) 3 (tail ∷ []) (drop 2 rest.now) }
 {
@@ -49,14 +51,14 @@ fn three(lead: u8, second: u8, rest: &[u8]) -> Character
         0x80..=0xBF => {
             let two = free_bits(lead, 0xE0) * 64 + free_bits(second, 0x80);
             let code = two * 64 + free_bits(third, 0x80);
-            Character::Well { code, len: 3 }
+            Ok(Character { code, len: 3 })
         }
-        _ => Character::Ill { len: 2 },
+        _ => Err(IllFormed { len: 2 }),
     }
 }
 
 // After two octets of a character of four: the two UTF8-tail that are due.
-fn four(lead: u8, second: u8, rest: &[u8]) -> Character
+fn four(lead: u8, second: u8, rest: &[u8]) -> Result<Character, IllFormed>
     requires { (0xF0 ≤ lead) × (0x80 ≤ second) }
     ensures { result ≡ follow ((lead - 0xF0) * 64 + (second - 0x80)) 4 (tail ∷ tail ∷ []) (drop 2 rest.now) }
 {
@@ -68,75 +70,75 @@ fn four(lead: u8, second: u8, rest: &[u8]) -> Character
                 let two = free_bits(lead, 0xF0) * 64 + free_bits(second, 0x80);
                 let three = two * 64 + free_bits(third, 0x80);
                 let code = three * 64 + free_bits(fourth, 0x80);
-                Character::Well { code, len: 4 }
+                Ok(Character { code, len: 4 })
             }
-            _ => Character::Ill { len: 3 },
+            _ => Err(IllFormed { len: 3 }),
         },
-        _ => Character::Ill { len: 2 },
+        _ => Err(IllFormed { len: 2 }),
     }
 }
 
 // The character that some bytes begin with, by its first two octets. The arms are section 4 of RFC 3629, line by line and in its order.
-fn utf8_char(lead: u8, second: u8, rest: &[u8]) -> Character
+fn utf8_char(lead: u8, second: u8, rest: &[u8]) -> Result<Character, IllFormed>
     requires { FirstTwo rest.now lead second }
     ensures { result ≡ character rest.now }
 {
     match lead {
         // UTF8-1 = %x00-7F
-        0x00..=0x7F => Character::Well {
+        0x00..=0x7F => Ok(Character {
             code: free_bits(lead, 0x00),
             len: 1,
-        },
+        }),
         // UTF8-2 = %xC2-DF UTF8-tail
         0xC2..=0xDF => match second {
             0x80..=0xBF => two(lead, second),
-            _ => Character::Ill { len: 1 },
+            _ => Err(IllFormed { len: 1 }),
         },
         // UTF8-3 = %xE0 %xA0-BF UTF8-tail /
         0xE0 => match second {
             0xA0..=0xBF => three(lead, second, rest),
-            _ => Character::Ill { len: 1 },
+            _ => Err(IllFormed { len: 1 }),
         },
         //          %xE1-EC 2( UTF8-tail ) /
         0xE1..=0xEC => match second {
             0x80..=0xBF => three(lead, second, rest),
-            _ => Character::Ill { len: 1 },
+            _ => Err(IllFormed { len: 1 }),
         },
         //          %xED %x80-9F UTF8-tail /
         0xED => match second {
             0x80..=0x9F => three(lead, second, rest),
-            _ => Character::Ill { len: 1 },
+            _ => Err(IllFormed { len: 1 }),
         },
         //          %xEE-EF 2( UTF8-tail )
         0xEE..=0xEF => match second {
             0x80..=0xBF => three(lead, second, rest),
-            _ => Character::Ill { len: 1 },
+            _ => Err(IllFormed { len: 1 }),
         },
         // UTF8-4 = %xF0 %x90-BF 2( UTF8-tail ) /
         0xF0 => match second {
             0x90..=0xBF => four(lead, second, rest),
-            _ => Character::Ill { len: 1 },
+            _ => Err(IllFormed { len: 1 }),
         },
         //          %xF1-F3 3( UTF8-tail ) /
         0xF1..=0xF3 => match second {
             0x80..=0xBF => four(lead, second, rest),
-            _ => Character::Ill { len: 1 },
+            _ => Err(IllFormed { len: 1 }),
         },
         //          %xF4 %x80-8F 2( UTF8-tail )
         0xF4 => match second {
             0x80..=0x8F => four(lead, second, rest),
-            _ => Character::Ill { len: 1 },
+            _ => Err(IllFormed { len: 1 }),
         },
-        _ => Character::Ill { len: 1 },
+        _ => Err(IllFormed { len: 1 }),
     }
 }
 
 // The character that begins at a place of the text; at its end and past it none is well formed.
-pub fn character_at(text: &[u8], at: usize) -> Character
+pub fn character_at(text: &[u8], at: usize) -> Result<Character, IllFormed>
     ensures { result ≡ character (drop at text.now) }
 {
     if text.len() <= at {
-        return Character::Ill { len: 0 };
+        return Err(IllFormed { len: 0 });
     }
     let rest = &text[at..];
     utf8_char(octet_at(rest, 0), octet_at(rest, 1), rest)

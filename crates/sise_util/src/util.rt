@@ -1,46 +1,25 @@
 // The characters of atoms and strings, and the check of an atom.
 ghost use Rattle.std.specs.Prelude.{◌≡◌, ◌<◌, ◌&&◌, eqb, length, drop};
 ghost use Rattle.sise_util.specs.Chars.{one_of, marks, is_atom_chr, is_string_chr, is_escaped_chr};
-ghost use Rattle.sise_util.specs.Atom.{inside, ends_string, kind_of, kind_number, is_kind, kind_prefix};
+ghost use Rattle.sise_util.specs.Atom.{inside, ends_string, kind_of, kind_number, kind_prefix};
 ghost use Rattle.sise_util.specs.Parts.{after_string, mask_of, PlainTo};
 
-// What the check of an atom answers.
-#[derive(Clone, Copy)]
+// Which atom some bytes are, by the number that is such an atom's first word in a table.
+#[derive(Clone, Copy, Debug, PartialEq, Eq)]
 pub enum AtomKind {
     // No `"` in it.
-    Plain,
+    Plain = 1,
     // One whole string.
-    String,
+    String = 2,
     // Any other atom.
-    Mixed,
-    // No atom.
-    No,
+    Mixed = 3,
 }
 
-impl AtomKind {
-    // The first word of such an atom in a table: 1, 2 or 3; 0 for no atom.
-    pub fn number(self) -> u32
-        ensures { result ≡ kind_number self }
-    {
-        match self {
-            AtomKind::Plain => 1,
-            AtomKind::String => 2,
-            AtomKind::Mixed => 3,
-            AtomKind::No => 0,
-        }
-    }
-
-    // Whether it is an atom at all.
-    pub fn is_atom(self) -> bool
-        ensures { result ≡ is_kind self }
-    {
-        match self {
-            AtomKind::Plain => true,
-            AtomKind::String => true,
-            AtomKind::Mixed => true,
-            AtomKind::No => false,
-        }
-    }
+// The first word of such an atom in a table; 0 for no atom.
+pub fn kind_number(kind: Option<AtomKind>) -> u32
+    ensures { result ≡ kind_number kind }
+{
+    kind.map_or(0, |kind| kind as u32)
 }
 
 // Whether `chr` is an atom character that is no letter and no digit.
@@ -132,7 +111,7 @@ fn is_escaped_chr(chr: u8) -> bool
 }
 
 // The place behind the closing quote of a string whose inside begins at `from`, or 0 if no string is there. It is a loop of its own, and so short, since
-// a string may be long.
+// a string may be long. It counts places by hand: an escape passes two bytes at once.
 fn string_end(atom: &[u8], from: usize) -> usize
     ensures same { after_string atom.now result ≡ inside (drop from atom.now) }
     ensures on { (result ≡ 0 → ⊥) → from < result }
@@ -157,7 +136,8 @@ fn string_end(atom: &[u8], from: usize) -> usize
     0
 }
 
-// The end of the atom characters that `atom` begins with: most atoms have no others. A loop over a run, so it goes by is_atom_byte.
+// The end of the atom characters that `atom` begins with: most atoms have no others. A loop over a run, so it goes by is_atom_byte; it counts by hand, since by
+// the iterator's `position`, which was tried, a check took a quarter longer.
 fn plain_end(atom: &[u8]) -> usize
     ensures { PlainTo atom.now result }
 {
@@ -171,13 +151,13 @@ fn plain_end(atom: &[u8]) -> usize
     at
 }
 
-// Which atom `atom` is, whose bytes before `from` are atom characters.
-fn kind_from(atom: &[u8], from: usize) -> AtomKind
+// Which atom `atom` is, whose bytes before `from` are atom characters. The loop counts places by hand: a string is passed at once.
+fn kind_from(atom: &[u8], from: usize) -> Option<AtomKind>
     requires { PlainTo atom.now from }
     ensures { result ≡ kind_of atom.now }
 {
     if atom.len() == 0 {
-        return AtomKind::No;
+        return None;
     }
     let mut at = from;
     let mut quoted = false;
@@ -187,33 +167,33 @@ fn kind_from(atom: &[u8], from: usize) -> AtomKind
             at += 1;
         } else {
             if chr != b'"' {
-                return AtomKind::No;
+                return None;
             }
             let end = string_end(atom, at + 1);
             if end == 0 {
-                return AtomKind::No;
+                return None;
             }
             if is_whole(at, end, atom.len()) {
-                return AtomKind::String;
+                return Some(AtomKind::String);
             }
             at = end;
             quoted = true;
         }
     }
     if quoted {
-        AtomKind::Mixed
+        Some(AtomKind::Mixed)
     } else {
-        AtomKind::Plain
+        Some(AtomKind::Plain)
     }
 }
 
 // Which atom `atom` is: one or more atom characters and strings, or no atom.
-pub fn check_atom(atom: &[u8]) -> AtomKind
+pub fn check_atom(atom: &[u8]) -> Option<AtomKind>
     ensures { result ≡ kind_of atom.now }
 {
     let end = plain_end(atom);
     if end != 0 && end == atom.len() {
-        return AtomKind::Plain;
+        return Some(AtomKind::Plain);
     }
     kind_from(atom, end)
 }
@@ -222,24 +202,19 @@ pub fn check_atom(atom: &[u8]) -> AtomKind
 fn is_whole(at: usize, end: usize, len: usize) -> bool
     ensures { result ≡ (eqb at 0 && eqb end len) }
 {
-    if at != 0 {
-        return false;
-    }
-    end == len
+    at == 0 && end == len
 }
 
 // Which atom the first `len` bytes of `rest` are, a text from an atom's first byte on; a length past its end is none. It does as check_atom does, and does
-// not call it: so the loop over a plain atom becomes a part of the test of a table, and what is left of an atom is a call.
-pub fn check_atom_prefix(rest: &[u8], len: usize) -> AtomKind
+// not call it: so the loop over a plain atom becomes a part of the test of a table, and what is left of an atom is a call. By check_atom a flat tree, which is
+// tested before it is written, was written more slowly than the crate writes it.
+pub fn check_atom_prefix(rest: &[u8], len: usize) -> Option<AtomKind>
     ensures { result ≡ kind_prefix rest.now len }
 {
-    if rest.len() < len {
-        return AtomKind::No;
-    }
-    let atom = &rest[..len];
+    let atom = rest.get(..len)?;
     let end = plain_end(atom);
-    if end != 0 && end == len {
-        return AtomKind::Plain;
+    if end != 0 && end == atom.len() {
+        return Some(AtomKind::Plain);
     }
     kind_from(atom, end)
 }

@@ -1,7 +1,5 @@
--- `put_refused` meets its contract: the word, two numbers and the line end, one behind the other.
-use mathlib.Core.Path.{◌≡◌}
-use mathlib.Core.List.{[], ◌∷◌}
-use Prim.Native.Nat.{ℕ}
+-- The word, two numbers and the line end stand one behind the other.
+use Rattle.std.proofs.Common.{◌≡◌, [], ◌∷◌, ℕ}
 use Rattle.sise_parser.specs.Refusals.{refusal_of}
 use Rattle.sise_parser.specs.declared.error.ParseError.{ParseError}
 use Rattle.lines.specs.Put.{Output, put, number}
@@ -22,7 +20,7 @@ returns c =
     line _ _ _ _
     c.number.ensures
     c.place.ensures
-    c.put_bytes-at.ensures
-    c.put_number-at.ensures
-    c.put_number-at-2.ensures
+    c.put_bytes.ensures
+    c.put_number.ensures
+    c.put_number-2.ensures
     c.put_byte.ensures

@@ -1,10 +1,6 @@
--- `run_script` is safe and ends: each case lies after the last.
-use lib.ListN.{length}
-use Prim.Native.Nat.{◌-◌}
+-- Each case is read from what the last one left, which is less.
+use Rattle.std.proofs.Common.{length}
 use Rattle.replay.proofs.run_script.Given as goal
 
-abbrev pub invariant-loop-from : goal.invariant-loop-from
-invariant-loop-from l = Unit {0}
-
-abbrev pub decreases-loop-from : goal.decreases-loop-from
-decreases-loop-from l = length l.script - l.from
+abbrev pub decreases-loop-letter : goal.decreases-loop-letter
+decreases-loop-letter l = length l.script

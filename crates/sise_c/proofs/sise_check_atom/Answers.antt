@@ -1,12 +1,12 @@
 -- 0 where check_atom says yes, and 17 where it says no.
+use Rattle.std.specs.Prelude.{is_some}
 use mathlib.Core.Path.{sym, ap, ◌∙◌}
-use Rattle.sise_util.specs.Atom.{is_kind}
 use Rattle.sise_util.proofs.KindLaws.{kind_atom}
 use Rattle.sise_c.specs.Reports.{checked}
 use Rattle.sise_c.proofs.sise_check_atom.Goals as goal
 
-pub returns-then-is_atom : goal.returns-then-is_atom
-returns-then-is_atom c = ap checked (sym c.if-is_atom.true ∙ c.is_atom.ensures ∙ ap is_kind c.check_atom-kind.ensures ∙ kind_atom _)
+pub returns-then-is_some : goal.returns-then-is_some
+returns-then-is_some c = ap checked (sym c.if-is_some.true ∙ c.is_some.ensures ∙ ap is_some c.check_atom.ensures ∙ kind_atom _)
 
-pub returns-else-is_atom : goal.returns-else-is_atom
-returns-else-is_atom c = ap checked (sym c.if-is_atom.false ∙ c.is_atom.ensures ∙ ap is_kind c.check_atom-kind.ensures ∙ kind_atom _)
+pub returns-else-is_some : goal.returns-else-is_some
+returns-else-is_some c = ap checked (sym c.if-is_some.false ∙ c.is_some.ensures ∙ ap is_some c.check_atom.ensures ∙ kind_atom _)

@@ -1,35 +1,40 @@
 -- What the loop keeps: the items counted, and those that are left, are all; the position, which each item moves, measures what is left.
-use mathlib.Core.Path.{◌∙◌}
-use borrow.Author.Rules.{rules}
+use Rattle.std.proofs.Common.{◌≡◌, ℕ, rules, ◌∙◌, sym, arith, Result, Ok, Err, MatchResult}
+use Rattle.std.specs.Result.{result_and}
+use Rattle.sise_parser.specs.Refusals.{refusal_of}
+use Rattle.sise_parser.specs.Reader.{Ending, ended, not_ended}
+use Rattle.sise_parser.specs.Meaning.{finished_as}
+use Rattle.sise_parser.specs.declared.error.ParseError.{ParseError}
 use Rattle.sise_c.proofs.ItemLaws.{gave_item, gave_refusal, falls, fewer, counts_none, counts_more, counts_all, counts_ends}
 use Rattle.sise_c.proofs.items.count_items.Goals as goal
 
-pub loop-items-init : goal.loop-items-init
-loop-items-init c = counts_none _ c.new-reader.ensures
-
-pub count_plain-run-requires : goal.count_plain-run-requires
-count_plain-run-requires c = (_, c.loop-items.invariant)
+pub loop-plain-init : goal.loop-plain-init
+loop-plain-init c = counts_none _ c.new-reader.ensures
 
 pub overflow_add-items : goal.overflow_add-items
-overflow_add-items c =
-    let now = c.count_plain-run.ensures.on _ c.loop-items.invariant in
-    let n = fewer _ now.reached (gave_item _ _ c.next_item-next.ensures c.in-Item.is) in
-    search rules
+overflow_add-items c = let n = fewer _ c.loop-plain.invariant.reached (sym c.in-Some.ensures.item) in search rules
 
-pub loop-items-smaller : goal.loop-items-smaller
-loop-items-smaller c =
-    let now = c.count_plain-run.ensures.on _ c.loop-items.invariant in
-    falls _ now.reached (gave_item _ _ c.next_item-next.ensures c.in-Item.is) c.count_plain-run.ensures.after
+pub loop-plain-smaller-in-Some : goal.loop-plain-smaller-in-Some
+loop-plain-smaller-in-Some c = falls _ c.loop-plain.invariant.reached (sym c.in-Some.ensures.item) (omega arith)
 
-pub loop-items-preserved : goal.loop-items-preserved
-loop-items-preserved c =
-    counts_more _ (c.count_plain-run.ensures.on _ c.loop-items.invariant) (gave_item _ _ c.next_item-next.ensures c.in-Item.is)
+pub loop-plain-preserved-in-Some : goal.loop-plain-preserved-in-Some
+loop-plain-preserved-in-Some c = counts_more _ c.loop-plain.invariant (sym c.in-Some.ensures.item)
 
-pub returns-in-Refused : goal.returns-in-Refused
-returns-in-Refused c =
-    let now = c.count_plain-run.ensures.on _ c.loop-items.invariant in
-    let e = gave_refusal _ _ c.next_item-next.ensures c.in-Refused.is in
-    record {
-      items = counts_all _ now e;
-      ending = c.ending_by-ending.ensures ∙ counts_ends _ now e;
-    }
+pub overflow_add-items-in-Ok : goal.overflow_add-items-in-Ok
+overflow_add-items-in-Ok c = let n = fewer _ c.loop-plain.invariant.reached (gave_item _ _ c.next_item-next.ensures c.in-Ok.is) in search rules
+
+pub loop-plain-smaller : goal.loop-plain-smaller
+loop-plain-smaller c = falls _ c.loop-plain.invariant.reached (gave_item _ _ c.next_item-next.ensures c.in-Ok.is) (omega arith)
+
+pub loop-plain-preserved : goal.loop-plain-preserved
+loop-plain-preserved c = counts_more _ c.loop-plain.invariant (gave_item _ _ c.next_item-next.ensures c.in-Ok.is)
+
+counted : {m : ℕ} {x : Ending} (f : Result (Unit {0}) ParseError) {r : Result ℕ ParseError} {n : ℕ} → n ≡ m → finished_as f ≡ x → r ≡ result_and f (Ok n)
+    → MatchResult r (λ k. (k ≡ m) × (x ≡ ended)) (λ e. x ≡ not_ended (refusal_of e))
+counted (Ok u) d z e = rw e (d, sym z)
+counted (Err x) d z e = rw e (sym z)
+
+pub returns-in-Err : goal.returns-in-Err
+returns-in-Err c =
+    let e = gave_refusal _ _ c.next_item-next.ensures c.in-Err.is in
+    counted c.ending_by.result (counts_all _ c.loop-plain.invariant e) (c.ending_by.ensures ∙ counts_ends _ c.loop-plain.invariant e) c.and.ensures

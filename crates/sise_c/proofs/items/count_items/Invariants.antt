@@ -4,8 +4,8 @@ use lib.ListN.{length}
 use Rattle.sise_c.specs.Passes.{Counts}
 use Rattle.sise_c.proofs.items.count_items.Given as goal
 
-abbrev pub invariant-loop-items : goal.invariant-loop-items
-invariant-loop-items l = Counts l.text l.reader l.items
+abbrev pub invariant-loop-plain : goal.invariant-loop-plain
+invariant-loop-plain l = Counts l.text l.reader l.items
 
-abbrev pub decreases-loop-items : goal.decreases-loop-items
-decreases-loop-items l = length l.text - l.reader.position
+abbrev pub decreases-loop-plain : goal.decreases-loop-plain
+decreases-loop-plain l = length l.text - l.reader.position

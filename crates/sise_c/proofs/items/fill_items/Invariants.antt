@@ -4,8 +4,8 @@ use lib.ListN.{length}
 use Rattle.sise_c.specs.Passes.{Fills}
 use Rattle.sise_c.proofs.items.fill_items.Given as goal
 
-abbrev pub invariant-loop-item : goal.invariant-loop-item
-invariant-loop-item l = Fills l.text l.initial.words l.reader l.words l.items
+abbrev pub invariant-loop-plain : goal.invariant-loop-plain
+invariant-loop-plain l = Fills l.text l.initial.words l.reader l.words l.items
 
-abbrev pub decreases-loop-item : goal.decreases-loop-item
-decreases-loop-item l = length l.text - l.reader.position
+abbrev pub decreases-loop-plain : goal.decreases-loop-plain
+decreases-loop-plain l = length l.text - l.reader.position

@@ -36,22 +36,22 @@ goes_on text start at h v y =
 pub loop-at-init : goal.loop-at-init
 loop-at-init c = record { after = le_refl _; same = refl; token = λ l. absurd (omega arith) }
 
-pub returns-then-text-at : goal.returns-then-text-at
-returns-then-text-at c =
+pub returns-after-loop-at : goal.returns-after-loop-at
+returns-after-loop-at c =
     let v = c.loop-at.invariant in
     record {
-      same = sym (v.same ∙ run_end _ c.if-text-at.true);
+      same = sym (v.same ∙ run_end _ c.loop-at-test.false);
       after = v.after;
-      token = λ l n. v.token l ∙ plain_end _ c.if-text-at.true _;
+      token = λ l n. v.token l ∙ plain_end _ c.loop-at-test.false _;
     }
 
 pub loop-at-preserved : goal.loop-at-preserved
-loop-at-preserved c = goes_on _ _ _ c.if-text-at.false c.loop-at.invariant (sym c.is_atom_byte.ensures ∙ c.if-is_atom_byte.true)
+loop-at-preserved c = goes_on _ _ _ c.loop-at-test.true c.loop-at.invariant (sym c.is_atom_byte.ensures ∙ c.if-is_atom_byte.true)
 
 pub returns-else-is_atom_byte : goal.returns-else-is_atom_byte
 returns-else-is_atom_byte c =
     let v = c.loop-at.invariant in
-    let h = c.if-text-at.false in
+    let h = c.loop-at-test.true in
     let no = sym c.is_atom_byte.ensures ∙ c.if-is_atom_byte.false in
     record {
       same = sym (v.same ∙ run_stops _ _ h no);

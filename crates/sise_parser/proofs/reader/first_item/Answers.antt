@@ -12,16 +12,16 @@ known n s p e = ap (λ (v : Token). in_beginning n (found (token_as v) s p)) (sy
 
 pub returns-in-Eof : goal.returns-in-Eof
 unfolding in_beginning
-returns-in-Eof c = c.refused.ensures ∙ known _ _ _ c.in-Eof.is
+returns-in-Eof c = c.answered.ensures ∙ known _ _ _ c.in-Eof.is
 
 pub returns-in-LeftParen : goal.returns-in-LeftParen
 unfolding in_beginning
-returns-in-LeftParen c = c.item.ensures ∙ known _ _ _ c.in-LeftParen.is
+returns-in-LeftParen c = c.answered-in-LeftParen.ensures ∙ known _ _ _ c.in-LeftParen.is
 
 pub returns-in-RightParen : goal.returns-in-RightParen
 unfolding in_beginning
-returns-in-RightParen c = c.refused-in-RightParen.ensures ∙ known _ _ _ c.in-RightParen.is
+returns-in-RightParen c = c.answered-in-RightParen.ensures ∙ known _ _ _ c.in-RightParen.is
 
 pub returns-in-Atom : goal.returns-in-Atom
 unfolding in_beginning
-returns-in-Atom c = c.item-in-Atom.ensures ∙ known _ _ _ c.in-Atom.is
+returns-in-Atom c = c.answered-in-Atom.ensures ∙ known _ _ _ c.in-Atom.is

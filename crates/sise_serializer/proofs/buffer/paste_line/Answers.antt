@@ -10,31 +10,31 @@ use Rattle.sise_serializer.proofs.buffer.paste_line.Goals as goal
 pub returns-then-buf-at : goal.returns-then-buf-at
 returns-then-buf-at c =
     let a = c.args in
-    let size = layout_length a.line_break.now a.times a.indentation.now in
-    sym (pasted_not a.buf.now a.at (a.line_break.now ++ repeat a.times a.indentation.now) (omega (arith, size)))
+    let size = layout_length a.style.line_break.now a.times a.style.indentation.now in
+    sym (pasted_not a.buf.now a.at (a.style.line_break.now ++ repeat a.times a.style.indentation.now) (omega (arith, size)))
 
-pub returns-then-left-line_break : goal.returns-then-left-line_break
-returns-then-left-line_break c =
+pub returns-then-left-style : goal.returns-then-left-style
+returns-then-left-style c =
     let a = c.args in
-    let size = layout_length a.line_break.now a.times a.indentation.now in
-    sym (pasted_not a.buf.now a.at (a.line_break.now ++ repeat a.times a.indentation.now) (omega (arith, size)))
+    let size = layout_length a.style.line_break.now a.times a.style.indentation.now in
+    sym (pasted_not a.buf.now a.at (a.style.line_break.now ++ repeat a.times a.style.indentation.now) (omega (arith, size)))
 
 pub write_line-requires : goal.write_line-requires
 write_line-requires c =
     let a = c.args in
     let e = sym c.has_room.ensures ∙ c.if-has_room.true in
-    omega (arith, leb-true, layout_length a.line_break.now a.times a.indentation.now)
+    omega (arith, leb-true, layout_length a.style.line_break.now a.times a.style.indentation.now)
 
 pub returns-then-has_room : goal.returns-then-has_room
 returns-then-has_room c =
     let a = c.args in
     let e = sym c.has_room.ensures ∙ c.if-has_room.true in
-    let size = layout_length a.line_break.now a.times a.indentation.now in
-    c.write_line.ensures.buf_after ∙ sym (pasted_if_lem a.buf.now a.at (a.line_break.now ++ repeat a.times a.indentation.now) (omega (arith, leb-true, size, c.if-buf-at.false, c.if-left-line_break.false)))
+    let size = layout_length a.style.line_break.now a.times a.style.indentation.now in
+    c.write_line.ensures.buf_after ∙ sym (pasted_if_lem a.buf.now a.at (a.style.line_break.now ++ repeat a.times a.style.indentation.now) (omega (arith, leb-true, size, c.if-buf-at.false, c.if-left-style.false)))
 
 pub returns-else-has_room : goal.returns-else-has_room
 returns-else-has_room c =
     let a = c.args in
     let e = sym c.has_room.ensures ∙ c.if-has_room.false in
-    let size = layout_length a.line_break.now a.times a.indentation.now in
-    sym (pasted_not a.buf.now a.at (a.line_break.now ++ repeat a.times a.indentation.now) (omega (arith, leb-false, size, c.if-buf-at.false, c.if-left-line_break.false)))
+    let size = layout_length a.style.line_break.now a.times a.style.indentation.now in
+    sym (pasted_not a.buf.now a.at (a.style.line_break.now ++ repeat a.times a.style.indentation.now) (omega (arith, leb-false, size, c.if-buf-at.false, c.if-left-style.false)))

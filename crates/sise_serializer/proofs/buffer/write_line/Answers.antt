@@ -9,18 +9,18 @@ use Rattle.sise_serializer.proofs.buffer.write_line.Goals as goal
 pub copy-requires : goal.copy-requires
 copy-requires c =
     let a = c.args in
-    omega (arith, layout_length a.line_break.now a.times a.indentation.now)
+    omega (arith, layout_length a.style.line_break.now a.times a.style.indentation.now)
 
 pub copies-requires : goal.copies-requires
 copies-requires c =
     let a = c.args in
-    omega (arith, layout_length a.line_break.now a.times a.indentation.now)
+    omega (arith, layout_length a.style.line_break.now a.times a.style.indentation.now)
 
 pub returns : goal.returns
 returns c =
     let a = c.args in
-    let text = a.line_break.now in
-    let steps = repeat a.times a.indentation.now in
+    let text = a.style.line_break.now in
+    let steps = repeat a.times a.style.indentation.now in
     let size = length-append text steps in
     record {
       value = c.copies.ensures.value ∙ omega (arith, size);

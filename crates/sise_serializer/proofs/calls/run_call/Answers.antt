@@ -1,15 +1,24 @@
 -- Each branch is the call that its kind means, on the bytes that the words name.
-use Rattle.sise_serializer.proofs.Running.{call_atom, call_begin, call_end, call_finish}
+use native.Mathlib.Omega.{arith}
+use Rattle.sise_serializer.specs.Words.{call_of}
+use Rattle.sise_serializer.proofs.Running.{call_kind, call_last}
 use Rattle.sise_serializer.proofs.calls.run_call.Goals as goal
 
-pub returns-then-kind-eq0 : goal.returns-then-kind-eq0
-returns-then-kind-eq0 c = let a = c.args in rw (call_atom a.words.now a.atoms.now a.at c.if-kind-eq0.true, ← c.atom_bytes-atom.ensures) c.write_atom.ensures
+pub returns-in-0 : goal.returns-in-0
+unfolding call_of
+returns-in-0 c = let a = c.args in rw (call_kind a.words.now a.atoms.now a.at c.in-0.is, ← c.atom_bytes-atom.ensures) c.write_atom.ensures
 
-pub returns-then-kind-eq1 : goal.returns-then-kind-eq1
-returns-then-kind-eq1 c = let a = c.args in rw (call_begin a.words.now a.atoms.now a.at c.if-kind-eq0.false c.if-kind-eq1.true) c.open_list.ensures
+pub returns-in-1 : goal.returns-in-1
+unfolding call_of
+returns-in-1 c = let a = c.args in rw (call_kind a.words.now a.atoms.now a.at c.in-1.is) c.open_list.ensures
 
-pub returns-then-kind-eq2 : goal.returns-then-kind-eq2
-returns-then-kind-eq2 c = let a = c.args in rw (call_end a.words.now a.atoms.now a.at c.if-kind-eq0.false c.if-kind-eq1.false c.if-kind-eq2.true) c.close_list.ensures
+pub returns-in-2 : goal.returns-in-2
+unfolding call_of
+returns-in-2 c = let a = c.args in rw (call_kind a.words.now a.atoms.now a.at c.in-2.is) c.close_list.ensures
 
-pub returns : goal.returns
-returns c = let a = c.args in rw (call_finish a.words.now a.atoms.now a.at c.if-kind-eq0.false c.if-kind-eq1.false c.if-kind-eq2.false) c.finish_text.ensures
+pub returns-in-3 : goal.returns-in-3
+unfolding call_of
+returns-in-3 c = let a = c.args in rw (call_kind a.words.now a.atoms.now a.at c.in-3.is) c.finish_text.ensures
+
+pub returns-in_default : goal.returns-in_default
+returns-in_default c = let a = c.args in rw (call_last a.words.now a.atoms.now a.at (λ e. omega arith) (λ e. omega arith) (λ e. omega arith) (λ e. omega arith)) c.finish_text-in_default.ensures

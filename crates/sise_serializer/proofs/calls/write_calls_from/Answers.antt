@@ -1,8 +1,10 @@
--- Before each turn, running what is left of the words from here leaves what running all of them leaves; each turn leaves one answer less to go.
-use mathlib.Core.Path.{sym, ap, ◌∙◌}
+-- Before each turn, running what is left of the words from here leaves what running all of them leaves.
+use mathlib.Core.Path.{◌≡◌, sym, ap, ◌∙◌}
 use Rattle.sise_serializer.specs.Words.{answer_word}
 use Rattle.sise_serializer.proofs.Running.{start, none_runs, full, stopped, has_room, on}
-use borrow.Author.Rules.{rules}
+use native.Mathlib.Omega.{arith}
+use lib.ListN.{length}
+use Rattle.std.proofs.lemmas.List.{set-get_or}
 use Rattle.sise_serializer.proofs.calls.write_calls_from.Goals as goal
 
 pub returns-then-not-is_sound : goal.returns-then-not-is_sound
@@ -11,26 +13,26 @@ returns-then-not-is_sound c = none_runs _ _ _ _ _ _ (sym c.is_sound.ensures ∙ 
 pub loop-k-init : goal.loop-k-init
 loop-k-init c = start _ _ _ _ _ _ (sym c.is_sound.ensures ∙ c.if-not-is_sound.false)
 
-pub run_call-wrote-requires : goal.run_call-wrote-requires
-run_call-wrote-requires c = let inv = c.loop-k.invariant in (has_room _ _ inv.place (sym c.has_call.ensures ∙ c.if-has_call.true), inv.sound)
+pub returns-then-not-has_call : goal.returns-then-not-has_call
+returns-then-not-has_call c = rw (set-get_or c.loop-k.answers c.loop-k.k 0) (stopped c.loop-k.invariant (sym c.has_call.ensures ∙ c.if-not-has_call.true))
 
-pub offset_bounds-answers-k : goal.offset_bounds-answers-k
-offset_bounds-answers-k c = let size = c.well_formed.1.1.1.1.1.1.0 in search rules
+pub invariant_of-run_call : goal.invariant_of-run_call
+invariant_of-run_call c = record { sound = c.loop-k.invariant.sound }
 
-pub overflow_add-k : goal.overflow_add-k
-overflow_add-k c = let size = c.well_formed.1.1.1.1.1.1.0 in search rules
+pub run_call-placed-requires : goal.run_call-placed-requires
+run_call-placed-requires c = has_room _ _ c.loop-k.invariant.place (sym c.has_call.ensures ∙ c.if-not-has_call.false)
 
 pub overflow_add-at : goal.overflow_add-at
-overflow_add-at c = let room = has_room _ _ c.loop-k.invariant.place (sym c.has_call.ensures ∙ c.if-has_call.true) in let size = c.well_formed.1.0 in search rules
+overflow_add-at c = let room = has_room _ _ c.loop-k.invariant.place (sym c.has_call.ensures ∙ c.if-not-has_call.false) in omega arith
 
 pub loop-k-preserved : goal.loop-k-preserved
 loop-k-preserved c =
-    let does = c.run_call-wrote.ensures in
-    on c.loop-k.invariant c.loop-k-test.true (sym c.has_call.ensures ∙ c.if-has_call.true)
-    does.serializer (c.put_word.ensures ∙ ap answer_word does.answer) does.buffer c.run_call-wrote.auto.buf
+    let does = rw (← c.wrote-wrote.ensures) at c.run_call-placed.ensures in
+    on c.loop-k.invariant (omega arith) (sym c.has_call.ensures ∙ c.if-not-has_call.false)
+    does.serializer (c.put_word.ensures ∙ ap answer_word does.answer) does.buffer c.run_call-placed.auto.buf
 
-pub returns-else-has_call : goal.returns-else-has_call
-returns-else-has_call c = stopped c.loop-k.invariant (sym c.has_call.ensures ∙ c.if-has_call.false)
-
-pub returns-after-loop-k : goal.returns-after-loop-k
-returns-after-loop-k c = full c.loop-k.invariant c.loop-k-test.false
+pub returns : goal.returns
+returns c =
+    let l = c.loop-k in
+    let all : l.k ≡ length l.answers = omega arith in
+    rw (← all) (full l.invariant (omega arith))

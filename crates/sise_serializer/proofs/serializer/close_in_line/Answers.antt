@@ -2,29 +2,34 @@
 use Prim.Native.Nat.{◌-◌, min}
 use native.Mathlib.Nat.{add-zero}
 use native.Mathlib.Omega.{arith}
-use mathlib.Core.Path.{◌≡◌, sym, ◌∙◌}
+use mathlib.Core.Path.{◌≡◌, ◌∙◌}
 use mathlib.Core.Bool.{false}
 use mathlib.Core.List.{[]}
 use Rattle.sise_serializer.specs.Serializer.{style, close_as}
 use Rattle.sise_serializer.proofs.Bytes.{pasted_one}
-use Rattle.sise_serializer.proofs.Spots.{found}
-use Rattle.sise_serializer.proofs.Does.{placed, full}
+use Rattle.sise_serializer.proofs.Sound.{small}
+use Rattle.sise_serializer.proofs.Does.{spotted, placed, full}
 use Rattle.sise_serializer.proofs.serializer.close_in_line.Goals as goal
 
-pub bounds-buf-at : goal.bounds-buf-at
+pub returns-in_err-spot : goal.returns-in_err-spot
 unfolding close_as
-bounds-buf-at c = let h = found _ _ _ _ (sym c.in-At.is ∙ c.find_spot.ensures) in omega (arith, h.in_room, h.offset)
+returns-in_err-spot c = let a = c.args in full _ _ (close_as (style [] []) a.w.serializer false) c.find.ensures _ c.in_err-spot.was c.from_residual.ensures.1
 
-pub returns-in-At : goal.returns-in-At
+pub bounds-buf-spot : goal.bounds-buf-spot
 unfolding close_as
-returns-in-At c =
+bounds-buf-spot c =
     let a = c.args in
-    let t = c.in-At.is in
-    let h = found _ _ _ _ (sym t ∙ c.find_spot.ensures) in
-    let kept : a.w.broken ≡ min a.w.broken (a.w.lists - 1) = omega (arith, c.requires.1) in
-    placed a.w a.buf.now ((close_as (style [] []) c.args.w false)) c.find_spot.ensures t (λ x. rw (x, c.phase_after.ensures, ← kept))
-    (pasted_one a.buf.now _ 41 (omega (arith, h.in_room, h.offset)) ∙ rw (h.offset, add-zero a.w.position))
+    let f = spotted a.w.serializer a.buf.now (close_as (style [] []) a.w.serializer false) c.find.ensures c.in_ok-spot.was in
+    omega (arith, f.in_room, f.offset)
 
-pub returns-in-NoRoom : goal.returns-in-NoRoom
+pub overflow_add-serializer : goal.overflow_add-serializer
+overflow_add-serializer c = let s = small _ c.args.w.sound in omega (arith, s.line)
+
+pub returns : goal.returns
 unfolding close_as
-returns-in-NoRoom c = let a = c.args in full a.w a.buf.now ((close_as (style [] []) c.args.w false)) c.find_spot.ensures c.refused.ensures c.in-NoRoom.is
+returns c =
+    let a = c.args in
+    let f = spotted a.w.serializer a.buf.now (close_as (style [] []) a.w.serializer false) c.find.ensures c.in_ok-spot.was in
+    let kept : a.w.serializer.broken ≡ min a.w.serializer.broken (a.w.serializer.lists - 1) = omega (arith, c.requires) in
+    placed a.w.serializer a.buf.now (close_as (style [] []) a.w.serializer false) c.find.ensures c.in_ok-spot.was (λ e. rw (e, c.phase_after.ensures, ← kept))
+    (pasted_one a.buf.now _ 41 (omega (arith, f.in_room, f.offset)) ∙ rw (f.offset, add-zero a.w.serializer.position))

@@ -2,41 +2,47 @@
 use Prim.Native.Nat.{ℕ, ◌+◌}
 use native.Mathlib.Nat.{add-zero}
 use native.Mathlib.Omega.{arith}
-use mathlib.Core.Path.{◌≡◌, refl, sym, ◌∙◌}
+use mathlib.Core.Path.{◌≡◌, refl, ap, ◌∙◌}
 use mathlib.Core.Bool.{Bool}
-use mathlib.Core.List.{List, [], append-nil}
+use mathlib.Core.List.{List, append-nil}
 use lib.ListN.{length}
-use Rattle.sise_serializer.specs.Serializer.{style, last}
-use Rattle.sise_serializer.specs.declared.serializer.Serializer.{Serializer}
+use Rattle.std.specs.Prelude.{Result}
+use Rattle.sise_serializer.specs.Serializer.{Style, style_of, last}
+use Rattle.sise_serializer.specs.Parts.{spot_or_full, break_bytes}
 use Rattle.sise_serializer.specs.declared.buffer.Spot.{Spot}
-use Rattle.sise_serializer.specs.Parts.{spot_of, break_bytes}
-use Rattle.sise_serializer.proofs.Spots.{found, spot_as}
-use Rattle.sise_serializer.proofs.Tests.{one_at_most}
-use Rattle.sise_serializer.proofs.Does.{placed, full, counted}
+use Rattle.sise_serializer.specs.declared.serializer.Serializer.{Serializer}
+use Rattle.sise_serializer.specs.declared.serializer.WriteError.{WriteError}
+use Rattle.sise_serializer.proofs.Sound.{small}
+use Rattle.sise_serializer.proofs.Spots.{find_as}
+use Rattle.sise_serializer.proofs.Tests.{one_at_most, counted}
+use Rattle.sise_serializer.proofs.Does.{spotted, placed, full}
 use Rattle.sise_serializer.proofs.serializer.last.Goals as goal
 
 -- the spot that was looked for is the piece's
-spot : (w : Serializer) (wished : Bool) (line_break buf : List ℕ) {lead : ℕ} {r : Spot} → r ≡ spot_of (length buf) w.position (lead + 0) 0
-    → lead ≡ length (break_bytes wished line_break) → r ≡ spot_of (length buf) w.position (length (break_bytes wished line_break)) 0
-spot w wished line_break buf h e = spot_as _ _ h (add-zero _ ∙ e) refl
-
-pub write_break-requires : goal.write_break-requires
+spot : (w : Serializer) (s : Style) (wished : Bool) (line_break buf : List ℕ) {r : Result Spot WriteError} → r ≡ spot_or_full (length buf) w.position (length line_break + 0) 0
+    → line_break ≡ break_bytes wished s.line_break → r ≡ spot_or_full (length buf) w.position (length (last s w wished).layout) (length (last s w wished).token)
 unfolding last
-write_break-requires c = omega (arith, (found _ _ _ _ (sym c.in-At.is ∙ (spot c.args.w c.args.insert_line_break c.args.line_break.now c.args.buf.now c.find_spot.ensures c.break_len-lead.ensures))).in_room)
+spot w s wished line_break buf h e = find_as _ _ h (add-zero _ ∙ ap length e) refl
 
-pub overflow_add-breaks : goal.overflow_add-breaks
-unfolding last
-overflow_add-breaks c = omega (arith, c.requires.lines, c.one_if.ensures, one_at_most c.args.insert_line_break)
-
-pub returns-in-At : goal.returns-in-At
-unfolding last
-returns-in-At c =
+pub returns-in_err-spot : goal.returns-in_err-spot
+returns-in_err-spot c =
     let a = c.args in
-    let wished = a.insert_line_break in
-    let n = counted wished a.w.breaks c.one_if.ensures in
-    placed a.w a.buf.now (last (style a.line_break.now []) a.w a.insert_line_break) (spot c.args.w c.args.insert_line_break c.args.line_break.now c.args.buf.now c.find_spot.ensures c.break_len-lead.ensures) c.in-At.is (λ x. rw (x, add-zero, n))
-    (c.write_break.ensures ∙ rw (append-nil (break_bytes wished a.line_break.now)))
+    full _ _ (last (style_of a.style) a.w.serializer a.insert_line_break) (spot a.w.serializer (style_of a.style) a.insert_line_break _ a.buf.now c.find.ensures c.final_break-line_break.ensures) _ c.in_err-spot.was c.from_residual.ensures.1
 
-pub returns-in-NoRoom : goal.returns-in-NoRoom
+pub copy-requires : goal.copy-requires
 unfolding last
-returns-in-NoRoom c = let a = c.args in full a.w a.buf.now (last (style a.line_break.now []) a.w a.insert_line_break) (spot c.args.w c.args.insert_line_break c.args.line_break.now c.args.buf.now c.find_spot.ensures c.break_len-lead.ensures) c.refused.ensures c.in-NoRoom.is
+copy-requires c =
+    let a = c.args in
+    let f = spotted a.w.serializer a.buf.now (last (style_of a.style) a.w.serializer a.insert_line_break) (spot a.w.serializer (style_of a.style) a.insert_line_break _ a.buf.now c.find.ensures c.final_break-line_break.ensures) c.in_ok-spot.was in
+    omega (arith, f.in_room, ap length c.final_break-line_break.ensures)
+
+pub overflow_add-serializer : goal.overflow_add-serializer
+overflow_add-serializer c = let s = small _ c.args.w.sound in omega (arith, s.lines, c.from.ensures, one_at_most c.args.insert_line_break)
+
+pub returns : goal.returns
+unfolding last
+returns c =
+    let a = c.args in
+    placed a.w.serializer a.buf.now (last (style_of a.style) a.w.serializer a.insert_line_break) (spot a.w.serializer (style_of a.style) a.insert_line_break _ a.buf.now c.find.ensures c.final_break-line_break.ensures) c.in_ok-spot.was
+    (λ e. rw (e, add-zero, counted a.insert_line_break a.w.serializer.breaks c.from.ensures))
+    (c.copy.ensures ∙ rw (append-nil (break_bytes a.insert_line_break a.style.line_break.now), c.final_break-line_break.ensures))

@@ -1,13 +1,9 @@
--- The loop's invariant: the table stands for the lists that are open. Plain tokens are filled on; the position, which each item moves, measures what is
--- left.
+-- The loop's invariant: the table stands for the lists that are open. The position, which each item moves, measures what is left.
 use native.Mathlib.Omega.{arith}
 use mathlib.Core.Path.{◌∙◌}
-use mathlib.Core.Logic.{⊎_elim}
 use Rattle.sise_tree.specs.ParseTree.{top}
 use Rattle.sise_tree.proofs.ReadSteps.{called, took}
-use Rattle.sise_tree.proofs.ParseSteps.{lists_within}
 use Rattle.sise_tree.proofs.FillingLoop.{fills_none, never_refused, item_fits, fill_ends, fill_goes}
-use Rattle.sise_tree.proofs.FillingPlain.{filling_at}
 use Rattle.sise_tree.proofs.parse.fill_nodes.Goals as goal
 
 pub loop-item-init : goal.loop-item-init
@@ -19,13 +15,13 @@ shape_of-table-in_default c = c.loop-item.invariant.2.same
 pub returns-in_default : goal.returns-in_default
 returns-in_default c =
     let (n, q, k) = c.requires in
-    never_refused _ _ _ k c.loop-item.invariant.2 (called c.item_ahead-next.result c.item_ahead-next.ensures c.renewed-r.ensures c.in_default.is)
+    never_refused _ _ _ k c.loop-item.invariant.2 (called c.next_item-next.result c.next_item-next.ensures c.in_default.is)
 
 pub put_item-mark-requires : goal.put_item-mark-requires
 put_item-mark-requires c =
     let (n, q, k) = c.requires in
     let h = c.loop-item.invariant.2 in
-    (_, _, h.shows, item_fits _ _ _ k h (called c.item_ahead-next.result c.item_ahead-next.ensures c.renewed-r.ensures c.in-Item.is))
+    (_, _, h.shows, item_fits _ _ _ k h (called c.next_item-next.result c.next_item-next.ensures c.in-Ok.is))
 
 pub shape_of-table-then-r-reader : goal.shape_of-table-then-r-reader
 shape_of-table-then-r-reader c = c.put_item-mark.auto.table ∙ c.loop-item.invariant.2.same
@@ -34,48 +30,22 @@ pub returns-then-r-reader : goal.returns-then-r-reader
 returns-then-r-reader c =
     let (n, q, k) = c.requires in
     let h = c.loop-item.invariant.2 in
-    let e = called c.item_ahead-next.result c.item_ahead-next.ensures c.renewed-r.ensures c.in-Item.is in
+    let e = called c.next_item-next.result c.next_item-next.ensures c.in-Ok.is in
     fill_ends _ _ _ k h e (c.put_item-mark.ensures _ _ h.shows (item_fits _ _ _ k h e)) c.if-r-reader.true
-
-pub overflow_sub-r : goal.overflow_sub-r
-overflow_sub-r c =
-    let (n, q, k) = c.requires in
-    let h = c.loop-item.invariant.2 in
-    let e = called c.item_ahead-next.result c.item_ahead-next.ensures c.renewed-r.ensures c.in-Item.is in
-    let (g, s) = fill_goes _ _ _ k h e (c.put_item-mark.ensures _ _ h.shows (item_fits _ _ _ k h e)) c.if-r-reader.false c.put_item-mark.auto.table in
-    omega (arith, s.stands.listed)
-
-pub fill_plain-run-requires : goal.fill_plain-run-requires
-fill_plain-run-requires c =
-    let (n, q, k) = c.requires in
-    let h = c.loop-item.invariant.2 in
-    let e = called c.item_ahead-next.result c.item_ahead-next.ensures c.renewed-r.ensures c.in-Item.is in
-    let (g, s) = fill_goes _ _ _ k h e (c.put_item-mark.ensures _ _ h.shows (item_fits _ _ _ k h e)) c.if-r-reader.false c.put_item-mark.auto.table in
-    (_, _, n, q, _, g, filling_at _ _ _ k s c.if-r-reader.false)
-
-pub overflow_add-r : goal.overflow_add-r
-overflow_add-r c =
-    let (n, q, k) = c.requires in
-    let h = c.loop-item.invariant.2 in
-    let e = called c.item_ahead-next.result c.item_ahead-next.ensures c.renewed-r.ensures c.in-Item.is in
-    let (g, s) = fill_goes _ _ _ k h e (c.put_item-mark.ensures _ _ h.shows (item_fits _ _ _ k h e)) c.if-r-reader.false c.put_item-mark.auto.table in
-    let (f, a) = c.fill_plain-run.ensures.on _ _ n q _ g (filling_at _ _ _ k s c.if-r-reader.false) in
-    ⊎_elim (λ z. omega arith) (λ z. omega arith) (lists_within _ _ a.fills.stands)
 
 pub loop-item-smaller : goal.loop-item-smaller
 loop-item-smaller c =
     let (n, q, k) = c.requires in
     let h = c.loop-item.invariant.2 in
-    let e = called c.item_ahead-next.result c.item_ahead-next.ensures c.renewed-r.ensures c.in-Item.is in
+    let e = called c.next_item-next.result c.next_item-next.ensures c.in-Ok.is in
     let (g, s) = fill_goes _ _ _ k h e (c.put_item-mark.ensures _ _ h.shows (item_fits _ _ _ k h e)) c.if-r-reader.false c.put_item-mark.auto.table in
     let t = took _ _ e in
-    omega (arith, t.moves, t.within, c.fill_plain-run.ensures.after)
+    omega (arith, t.moves, t.within)
 
 pub loop-item-preserved : goal.loop-item-preserved
 loop-item-preserved c =
     let (n, q, k) = c.requires in
     let h = c.loop-item.invariant.2 in
-    let e = called c.item_ahead-next.result c.item_ahead-next.ensures c.renewed-r.ensures c.in-Item.is in
+    let e = called c.next_item-next.result c.next_item-next.ensures c.in-Ok.is in
     let (g, s) = fill_goes _ _ _ k h e (c.put_item-mark.ensures _ _ h.shows (item_fits _ _ _ k h e)) c.if-r-reader.false c.put_item-mark.auto.table in
-    let (f, a) = c.fill_plain-run.ensures.on _ _ n q _ g (filling_at _ _ _ k s c.if-r-reader.false) in
-    (f, _, a.fills)
+    (g, _, s)

@@ -1,5 +1,4 @@
--- The loop's invariant: the table stands for the lists that are open. Plain tokens are filled on; the position, which each item moves, measures what is
--- left.
+-- The loop's invariant: the table stands for the lists that are open. The position, which each item moves, measures what is left.
 use Prim.Native.Nat.{ℕ, ◌-◌}
 use lib.ListN.{length}
 use Rattle.sise_tree.specs.ParseTree.{Frames}

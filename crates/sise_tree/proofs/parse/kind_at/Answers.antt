@@ -18,4 +18,4 @@ pub overflow_sub-end : goal.overflow_sub-end
 overflow_sub-end c = c.requires.0
 
 pub returns : goal.returns
-returns c = let a = c.args in let text = a.text.now in c.number.ensures ∙ ap kind_number (c.check_atom_prefix-kind.ensures ∙ ap (λ (l : List ℕ). kind_prefix l (a.end - a.pos)) (take_all (length text - a.pos) (drop a.pos text) (omega (arith, length-drop a.pos text))))
+returns c = let a = c.args in let text = a.text.now in c.kind_number.ensures ∙ ap kind_number (c.check_atom_prefix.ensures ∙ ap (λ (l : List ℕ). kind_prefix l (a.end - a.pos)) (take_all (length text - a.pos) (drop a.pos text) (omega (arith, length-drop a.pos text))))

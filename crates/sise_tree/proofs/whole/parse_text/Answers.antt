@@ -2,35 +2,31 @@
 use Prim.Native.Nat.{ℕ, ◌/◌, ◌≤◌, ◌<◌}
 use mathlib.Core.Path.{◌≡◌, refl, sym, ap, ◌∙◌, subst}
 use mathlib.Core.Bool.{Bool, cond, false≢true}
-use mathlib.Core.List.{List, [], ◌∷◌}
+use mathlib.Core.List.{List}
 use lib.ListN.{length}
 use borrow.Author.Tests.{lt-ltb, le-ltb, le-leb, lt-leb}
-use types.Run.{OneOf}
-use denote.Enum.Declared.{tag_of}
-use Rattle.sise_tree.specs.contracts.parse.ParsedTree as parsing
 use Rattle.sise_parser.specs.Reader.{fresh_reader, finish_reading}
 use Rattle.sise_parser.specs.Meaning.{finished_as}
+use Rattle.std.specs.Prelude.{Result, Ok, Err}
+use Rattle.std.proofs.lemmas.Result.{err_from_is_err_and}
 use Rattle.sise_parser.specs.declared.error.ParseError.{ParseError}
-use Rattle.sise_parser.specs.declared.reader.Finished.{Finished}
-use Rattle.sise_parser.specs.declared.reader.Finished.TheVariants as finished
 use Rattle.sise_parser.specs.declared.reader.Reader.{Reader}
 use Rattle.sise_tree.specs.Tree.{Node, size}
-use Rattle.sise_tree.specs.Answers.{answered, refused_with}
+use Rattle.sise_tree.specs.Answers.{answered, refused, refused_with, tree_refusal, parsed_as}
 use Rattle.sise_tree.specs.ParseTree.{longest, ReadNode, got, stopped, read_node, filled_with}
 use Rattle.sise_tree.specs.ParseText.{ParsesText, parses, placed_in, ended_with, text_read, parse_text, DoesParseText}
 use Rattle.sise_tree.specs.Filling.{counted, DoesCount, CanFill, DoesFill}
-use Rattle.sise_tree.specs.declared.parse.ParsedTree.{ParsedTree}
-use Rattle.sise_tree.specs.declared.parse.ParsedTree.TheVariants.{Nodes, Refused, TextTooLong, TableFull}
+use Rattle.sise_tree.specs.declared.parse.TreeError.{TreeError}
+use Rattle.sise_tree.specs.declared.parse.TreeError.TheVariants.{Refused, TextTooLong, TableFull}
 use Rattle.sise_tree.specs.declared.parse.TreeRead.{TreeRead}
-use Rattle.sise_tree.proofs.ParseCases.{not_nodes, is_answered, was_got, parse_fillable}
-use borrow.Enum.Refused.{opened}
+use Rattle.sise_tree.proofs.ParseCases.{is_answered, was_got, parse_fillable}
 use Rattle.sise_tree.proofs.whole.parse_text.Goals as goal
 
 module _ (text words : List ℕ) where
-  shown : {d e : ParsesText} {x : ParsedTree} {now : List ℕ} → d ≡ e → DoesParseText e x now → DoesParseText d x now
+  shown : {d e : ParsesText} {x : Result ℕ TreeError} {now : List ℕ} → d ≡ e → DoesParseText e x now → DoesParseText d x now
   shown {x = x} {now = now} z h = subst (λ (p : ParsesText). DoesParseText p x now) (sym z) h
 
-  long : longest < length text → DoesParseText (parse_text text words) TextTooLong words
+  long : longest < length text → DoesParseText (parse_text text words) (Err TextTooLong) words
   unfolding parse_text
   long h =
       shown (ap (λ (b : Bool). cond b (parses (refused_with 13) words) (text_read text words (read_node text fresh_reader))) (lt-ltb longest (length text) h))
@@ -48,25 +44,28 @@ module _ (text words : List ℕ) where
       counts : DoesCount (read_node text fresh_reader) x
       counts = subst (λ (r : Reader). DoesCount (read_node text r) x) fresh counting
 
-      unread : OneOf (1 ∷ 2 ∷ 3 ∷ 4 ∷ []) (tag_of parsing.the_type x.answer) → DoesParseText (parse_text text words) x.answer words
-      unread s = go (read_node text fresh_reader) refl
+      unread : {d : TreeError} → x.answer ≡ Err d → DoesParseText (parse_text text words) (Err d) words
+      unread {d} s = go (read_node text fresh_reader) refl
         where
-          go : (y : ReadNode) → read_node text fresh_reader ≡ y → DoesParseText (parse_text text words) x.answer words
-          go (got n r) e = absurd (false≢true (sym (not_nodes x.answer s) ∙ ap is_answered (counts.answer ∙ ap counted e)))
-          go (stopped z r) e = shown (read e) (record { answer = counts.answer ∙ ap counted e; words = refl })
+          same : refused (tree_refusal d) ≡ counted (read_node text fresh_reader)
+          same = ap parsed_as (sym s) ∙ counts.answer
 
-      fillable : {k : ℕ} → x.answer ≡ Nodes k → k ≤ length words / 4 → {p : Reader} → p ≡ fresh_reader → CanFill text p words
+          go : (y : ReadNode) → read_node text fresh_reader ≡ y → DoesParseText (parse_text text words) (Err d) words
+          go (got n r) e = absurd (false≢true (ap is_answered (same ∙ ap counted e)))
+          go (stopped z r) e = shown (read e) (record { answer = same ∙ ap counted e; words = refl })
+
+      fillable : {k : ℕ} → x.answer ≡ Ok k → k ≤ length words / 4 → {p : Reader} → p ≡ fresh_reader → CanFill text p words
       fillable a u v = subst (λ (r : Reader). CanFill text r words) (sym v) (parse_fillable text fresh_reader words short counts a u)
 
-      module _ {k : ℕ} (a : x.answer ≡ Nodes k) {f : Finished} (ends : finished_as f ≡ finish_reading text x.reader) where
+      module _ {k : ℕ} (a : x.answer ≡ Ok k) {f : Result (Unit {0}) ParseError} (ends : finished_as f ≡ finish_reading text x.reader) where
         -- a node was counted, and finish answered so
-        by : {g : Finished} {n : Node} → f ≡ g → read_node text fresh_reader ≡ got n x.reader → parse_text text words ≡ ended_with words n (finished_as g)
+        by : {g : Result (Unit {0}) ParseError} {n : Node} → f ≡ g → read_node text fresh_reader ≡ got n x.reader → parse_text text words ≡ ended_with words n (finished_as g)
         by {n = n} t e = read e ∙ ap (ended_with words n) (sym ends ∙ ap finished_as t)
 
-        more : {e : ParseError} → f ≡ finished.Refused e → DoesParseText (parse_text text words) (Refused e) words
+        more : {e : ParseError} → f ≡ Err e → DoesParseText (parse_text text words) (Err (Refused e)) words
         more t = was_got text fresh_reader words short counts a λ n e z. shown (by t e) (record { answer = refl; words = refl })
 
-        full : f ≡ finished.Done → length words / 4 < k → DoesParseText (parse_text text words) TableFull words
+        full : f ≡ Ok tt → length words / 4 < k → DoesParseText (parse_text text words) (Err TableFull) words
         unfolding placed_in
         full t u =
             was_got text fresh_reader words short counts a λ n e z.
@@ -76,8 +75,8 @@ module _ (text words : List ℕ) where
             (lt-leb (size n) (length words / 4) (subst (λ (m : ℕ). length words / 4 < m) z u)))
             (record { answer = refl; words = refl })
 
-        filled : f ≡ finished.Done → k ≤ length words / 4 → {p : Reader} → p ≡ fresh_reader → {now : List ℕ} → DoesFill text p words now
-            → DoesParseText (parse_text text words) (Nodes k) now
+        filled : f ≡ Ok tt → k ≤ length words / 4 → {p : Reader} → p ≡ fresh_reader → {now : List ℕ} → DoesFill text p words now
+            → DoesParseText (parse_text text words) (Ok k) now
         unfolding placed_in
         filled t u {p} v {now} w =
             was_got text fresh_reader words short counts a λ n e z.
@@ -90,23 +89,25 @@ module _ (text words : List ℕ) where
 pub returns-then-text-gt-LONGEST : goal.returns-then-text-gt-LONGEST
 returns-then-text-gt-LONGEST c = long _ _ c.if-text-gt-LONGEST.true
 
-pub returns-in_default : goal.returns-in_default
-returns-in_default c =
-    unread _ _ c.if-text-gt-LONGEST.false c.new.ensures c.count_nodes-counted.ensures (opened c.in_default.in_default-own.keys2)
+pub returns-in_err-nodes : goal.returns-in_err-nodes
+returns-in_err-nodes c =
+    let p = err_from_is_err_and c.from_residual.result c.from_residual.ensures.1 in
+    rw (p.1, p.2) (unread _ _ c.if-text-gt-LONGEST.false c.new.ensures c.count_nodes-counted.ensures c.in_err-nodes.was)
 
-pub returns-in-Refused : goal.returns-in-Refused
-returns-in-Refused c =
-    more _ _ c.if-text-gt-LONGEST.false c.new.ensures c.count_nodes-counted.ensures c.in-Nodes.is c.finish-ending.ensures c.in-Refused.is
+pub returns-in_err-finish : goal.returns-in_err-finish
+returns-in_err-finish c =
+    let p = err_from_is_err_and c.from_residual-in_err-finish.result c.from_residual-in_err-finish.ensures.1 in
+    rw (p.1, p.2) (more _ _ c.if-text-gt-LONGEST.false c.new.ensures c.count_nodes-counted.ensures c.in_ok-nodes.was c.finish.ensures c.in_err-finish.was)
 
 pub returns-then-nodes-table : goal.returns-then-nodes-table
 returns-then-nodes-table c =
-    full _ _ c.if-text-gt-LONGEST.false c.new.ensures c.count_nodes-counted.ensures c.in-Nodes.is c.finish-ending.ensures c.in_default-ending.is c.if-nodes-table.true
+    full _ _ c.if-text-gt-LONGEST.false c.new.ensures c.count_nodes-counted.ensures c.in_ok-nodes.was c.finish.ensures c.in_ok-finish.was c.if-nodes-table.true
 
 pub fill_nodes-requires : goal.fill_nodes-requires
 fill_nodes-requires c =
-    fillable _ _ c.if-text-gt-LONGEST.false c.new.ensures c.count_nodes-counted.ensures c.in-Nodes.is c.if-nodes-table.false c.new-2.ensures
+    fillable _ _ c.if-text-gt-LONGEST.false c.new.ensures c.count_nodes-counted.ensures c.in_ok-nodes.was c.if-nodes-table.false c.new-2.ensures
 
 pub returns : goal.returns
 returns c =
-    filled _ _ c.if-text-gt-LONGEST.false c.new.ensures c.count_nodes-counted.ensures c.in-Nodes.is c.finish-ending.ensures c.in_default-ending.is
+    filled _ _ c.if-text-gt-LONGEST.false c.new.ensures c.count_nodes-counted.ensures c.in_ok-nodes.was c.finish.ensures c.in_ok-finish.was
     c.if-nodes-table.false c.new-2.ensures c.fill_nodes.ensures

@@ -2,17 +2,9 @@
 use Rattle.sise_tree_writer.specs.Planning.{turn_call}
 use Rattle.sise_tree_writer.proofs.plan.plan_turn.Goals as goal
 
-pub plan_end-requires : goal.plan_end-requires
-unfolding turn_call
-plan_end-requires c = c.requires.0
-
 pub returns-then-closes : goal.returns-then-closes
 unfolding turn_call
 returns-then-closes c = rw c.if-closes.true c.plan_end.ensures
-
-pub plan_item-requires : goal.plan_item-requires
-unfolding turn_call
-plan_item-requires c = (c.requires.0, c.requires.1 c.if-closes.false)
 
 pub returns : goal.returns
 unfolding turn_call

@@ -2,14 +2,13 @@
 use Prim.Native.Nat.{ℕ, ◌+◌, ◌-◌, ◌*◌}
 use mathlib.Core.Bool.{true}
 use lib.ListN.{length}
-use Rattle.sise_serializer.specs.Serializer.{style}
+use Rattle.sise_serializer.specs.Serializer.{style_of}
 use Rattle.sise_tree_writer.proofs.Walked.{Walking}
 use Rattle.sise_tree_writer.proofs.write.write_nodes.Given as goal
 
-abbrev pub invariant-loop-left : goal.invariant-loop-left
-invariant-loop-left l =
-    (o : ℕ) × Walking (style l.line_break l.indentation) l.text l.table l.break_line_at true (length l.initial.buf) l.initial.buf l.initial.w l.buf l.w l.i l.list l.end l.begins l.left o
+abbrev pub invariant-loop-place : goal.invariant-loop-place
+invariant-loop-place l =
+    (o : ℕ) × Walking (style_of l.style) l.tree.text.now l.tree.table.now l.break_line_at true (length l.initial.buf) l.initial.buf l.initial.w l.buf l.w l.place.i l.place.list l.place.end l.place.begins l.place.left o
 
-abbrev pub decreases-loop-left : goal.decreases-loop-left
-decreases-loop-left l =
-    2 * (length l.table - l.i) + l.w.lists
+abbrev pub decreases-loop-place : goal.decreases-loop-place
+decreases-loop-place l = 2 * (length l.tree.table.now - l.place.i) + l.w.lists

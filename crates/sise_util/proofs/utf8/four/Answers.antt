@@ -7,17 +7,17 @@ use lib.Dec.{lit<}
 use lib.ListN.{drop}
 use Rattle.sise_util.specs.Parts.{OctetAt}
 use Rattle.sise_util.specs.Utf8.{tail, follow}
-use Rattle.sise_util.specs.declared.utf8.Character.TheVariants.{Well, Ill}
+use Rattle.sise_util.specs.Utf8.{well, ill}
 use Rattle.sise_util.proofs.Utf8Steps.{hit, miss, ends}
 use Rattle.sise_util.proofs.utf8.four.Goals as goal
 
 -- a third octet that is a UTF8-tail, and a fourth that is none
-fourth : {l : List ℕ} {third o : ℕ} (c : ℕ) → OctetAt l 2 third → 0x80 ≤ third → third ≤ 0xBF → OctetAt l 3 o → (0x80 ≤ o → o ≤ 0xBF → ⊥) → Ill 3 ≡ follow c 4 (tail ∷ tail ∷ []) (drop 2 l)
+fourth : {l : List ℕ} {third o : ℕ} (c : ℕ) → OctetAt l 2 third → 0x80 ≤ third → third ≤ 0xBF → OctetAt l 3 o → (0x80 ≤ o → o ≤ 0xBF → ⊥) → ill 3 ≡ follow c 4 (tail ∷ tail ∷ []) (drop 2 l)
 fourth c s from to s' d = miss s' 0x80 0xBF d _ 4 [] ∙ sym (hit s 0x80 0xBF (lit< tt) from to c 4 (tail ∷ []))
 
 pub returns-in-128-to-191-fourth : goal.returns-in-128-to-191-fourth
 returns-in-128-to-191-fourth c =
-    ap₂ (λ (a b : ℕ). Well (a * 64 + b) 4)
+    ap₂ (λ (a b : ℕ). well (a * 64 + b) 4)
     (ap₂ (λ (a b : ℕ). a * 64 + b) (ap₂ (λ (a b : ℕ). a * 64 + b) c.free_bits.ensures.0 c.free_bits-in-128-to-191-fourth.ensures.0) c.free_bits-in-128-to-191-fourth-2.ensures.0)
     c.free_bits-in-128-to-191-fourth-3.ensures.0
     ∙ sym (hit c.octet_at-third.ensures 0x80 0xBF (lit< tt) (omega arith) (omega arith) _ 4 (tail ∷ []) ∙ hit c.octet_at-fourth.ensures 0x80 0xBF (lit< tt) (omega arith) (omega arith) _ 4 [] ∙ ends _ 4 _)

@@ -4,7 +4,7 @@ use mathlib.Core.Path.{refl, sym, ap, ◌∙◌}
 use Prim.Native.Nat.{ℕ}
 use native.Mathlib.Omega.{arith}
 use Rattle.sise_util.specs.Utf8.{forms}
-use Rattle.sise_util.specs.declared.utf8.Character.TheVariants.{Well}
+use Rattle.sise_util.specs.Utf8.{well}
 use Rattle.sise_util.proofs.Utf8Steps.{row_at, no_row_at, goes_on, stops, ends}
 use Rattle.sise_util.proofs.utf8.utf8_char.Goals as goal
 
@@ -58,7 +58,7 @@ returns-in_default-second-4-2 c = stops c.requires 8 refl (omega arith) (omega a
 
 pub returns-in-0-to-127 : goal.returns-in-0-to-127
 unfolding forms
-returns-in-0-to-127 c = ap (λ (n : ℕ). Well n 1) c.free_bits.ensures.0 ∙ sym (ends _ 1 _) ∙ row_at c.requires 0 (omega arith) (omega arith)
+returns-in-0-to-127 c = ap (λ (n : ℕ). well n 1) c.free_bits.ensures.0 ∙ sym (ends _ 1 _) ∙ row_at c.requires 0 (omega arith) (omega arith)
 
 pub returns-in-128-to-191 : goal.returns-in-128-to-191
 unfolding forms

@@ -10,7 +10,8 @@ use lib.ListN.{length, drop, get_or, drop_of_length-le}
 use borrow.Author.Tests.{eq-eqb, ne_eqb, eqb-true, eqb-false}
 use Rattle.sise_util.specs.Chars.{is_atom_chr}
 use Rattle.sise_util.specs.Atom.{outside, inside, is_atom, has_quote, ends_string, is_string, kind_of}
-use Rattle.sise_util.specs.declared.util.AtomKind.TheVariants.{Plain, String, Mixed, No}
+use Rattle.std.specs.Prelude.{Some, None}
+use Rattle.sise_util.specs.declared.util.AtomKind.TheVariants.{Plain, String, Mixed}
 use Rattle.sise_util.specs.Parts.{after_string, PlainTo}
 use Rattle.sise_util.proofs.Lists.{drop-next}
 use Rattle.sise_util.proofs.Ranges.{split, and_first, and_second}
@@ -62,7 +63,7 @@ module _ {s : List ℕ} {at : ℕ} {quoted : Bool} (d : Due s at quoted) (h : at
         begun = λ _. split (eqb at 0) (λ e. string_here (eqb-true at 0 e) ∙ rw q) (λ e. d.begun (eqb-false at 0 e));
       }
 
-  stop : is_atom_chr b ≡ false → (b ≡ 34 → ⊥) → No ≡ kind_of s
+  stop : is_atom_chr b ≡ false → (b ≡ 34 → ⊥) → None ≡ kind_of s
   stop a q = kind_no s (sym (rw (ne_eqb b 34 q, a) at out))
 
   quoted_here : b ≡ 34 → has_quote s ≡ true
@@ -73,13 +74,13 @@ module _ {s : List ℕ} {at : ℕ} {quoted : Bool} (d : Due s at quoted) (h : at
     unfolding after_string
     rest z = (rw (ne_eqb r 0 z) at e) ∙ (rw (eq-eqb b 34 q) at out)
 
-    open_end : r ≡ 0 → No ≡ kind_of s
+    open_end : r ≡ 0 → None ≡ kind_of s
     unfolding after_string
     open_end z = kind_no s (sym ((rw (eq-eqb r 0 z) at e) ∙ (rw (eq-eqb b 34 q) at out)))
 
     module _ (z : r ≡ 0 → ⊥) (w : ends_string l ≡ eqb r (length s)) where
       -- all of it
-      whole : (eqb at 0 && eqb r (length s)) ≡ true → String ≡ kind_of s
+      whole : (eqb at 0 && eqb r (length s)) ≡ true → Some String ≡ kind_of s
       unfolding outside
       whole k =
           let first = eqb-true at 0 (and_first (eqb at 0) (eqb r (length s)) k) in
@@ -107,13 +108,13 @@ module _ {s : List ℕ} {at : ℕ} {quoted : Bool} (d : Due s at quoted) (h : le
   unfolding has_quote
   has = d.quotes ∙ ap (λ (m : List ℕ). quoted || has_quote m) (drop_of_length-le s h) ∙ or_none quoted
 
-  mixed : quoted ≡ true → Mixed ≡ kind_of s
+  mixed : quoted ≡ true → Some Mixed ≡ kind_of s
   mixed e = kind_mixed s is-atom (has ∙ e) (d.begun (λ (z : at ≡ 0). some (omega (arith, h, z))))
 
-  plain : quoted ≡ false → Plain ≡ kind_of s
+  plain : quoted ≡ false → Some Plain ≡ kind_of s
   plain e = kind_plain s is-atom (has ∙ e)
 
-empty : (s : List ℕ) → length s ≡ 0 → No ≡ kind_of s
+empty : (s : List ℕ) → length s ≡ 0 → None ≡ kind_of s
 unfolding is_atom
 empty [] h = kind_no [] refl
 empty (b ∷ l) h = absurd (omega arith)

@@ -2,11 +2,13 @@
 use mathlib.Core.Path.{◌≡◌, sym, ◌∙◌}
 use mathlib.Core.Bool.{false}
 use Prim.Native.Nat.{ℕ, ◌≤◌, ◌<◌}
+use mathlib.Core.Logic.{inl, inr}
+use native.Mathlib.Omega.{arith}
 use borrow.Author.Tests.{le-leb, lt-leb}
 use Rattle.sise_parser.specs.Reader.{lists_fit, is_sound}
 use Rattle.sise_parser.specs.declared.reader.Reader.{Reader}
 use Rattle.sise_parser.proofs.reader.Reader.is_sound.Goals as goal
-use Rattle.sise_parser.proofs.reader.Reader.is_sound.Goals.{then-len-self-via-then-len-self, then-len-self-via-else-len-self+then-self}
+use Rattle.sise_parser.proofs.reader.Reader.is_sound.Goals.{then-self-len, else-self-len}
 
 past_end : (n : ℕ) (r : Reader) → n < r.position → false ≡ is_sound n r
 unfolding is_sound
@@ -20,12 +22,16 @@ by_phase : (n : ℕ) (r : Reader) → r.position ≤ n → r.lists ≤ r.positio
 unfolding is_sound
 by_phase n r h k = sym (rw (le-leb r.position n h, le-leb r.lists r.position k))
 
-pub returns-then-len-self : goal.returns-then-len-self
-returns-then-len-self c =
-    elim c.then-len-self.branch [
-      | then-len-self-via-then-len-self w ↦ past_end _ c.args.self w.if-len-self.true
-      | then-len-self-via-else-len-self+then-self w ↦ too_many _ c.args.self w.if-len-self.false w.if-self.true
-    ]
+pub returns-then-self : goal.returns-then-self
+returns-then-self c = c.lists_fit.ensures ∙ by_phase _ c.args.self c.if-self.true.0 c.if-self.true.1
 
-pub returns : goal.returns
-returns c = c.lists_fit.ensures ∙ by_phase _ c.args.self c.if-len-self.false c.if-self.false
+pub returns-else-self : goal.returns-else-self
+returns-else-self c =
+    let r = c.args.self in
+    elim c.if-self-len.branch [
+      | then-self-len w ↦ elim c.if-self.either [
+        | inl h ↦ w.t-4-is ∙ lt-leb r.lists r.position h.1 ∙ too_many _ r h.0 h.1
+        | inr h ↦ absurd (omega (arith, w.if-self-len.true))
+      ]
+      | else-self-len w ↦ w.t-4-is ∙ lt-leb r.position c.args.len w.if-self-len.false ∙ past_end _ r w.if-self-len.false
+    ]

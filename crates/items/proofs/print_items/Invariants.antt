@@ -1,8 +1,0 @@
--- `print_items` is safe and ends: the turns fall.
-use Rattle.items.proofs.print_items.Given as goal
-
-abbrev pub invariant-loop-turns : goal.invariant-loop-turns
-invariant-loop-turns l = Unit {0}
-
-abbrev pub decreases-loop-turns : goal.decreases-loop-turns
-decreases-loop-turns l = l.turns

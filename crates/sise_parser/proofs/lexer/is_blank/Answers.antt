@@ -1,0 +1,39 @@
+-- `sise_parser::is_blank` meets its contract: the four bytes are those of the three classes that are blanks.
+use mathlib.Core.Path.{◌≡◌, refl, sym, ap, ◌∙◌}
+use mathlib.Core.Bool.{false}
+use mathlib.Core.Logic.{⊎_elim, inl, inr}
+use Prim.Native.Nat.{ℕ}
+use borrow.Author.Tests.{ne_eqb, eqb-false}
+use Rattle.sise_util.specs.Chars.{one_of}
+use Rattle.sise_util.specs.Classes.{Class, space, quote, tab, atom_chr, line_end, backslash, other, semicolon, left, right, printable, class_of, class_number}
+use Rattle.sise_util.proofs.ClassLaws.{space_number, tab_number, line_end_number}
+use Rattle.sise_parser.specs.Plain.{is_blank}
+use Rattle.sise_parser.proofs.lexer.is_blank.Goals as goal
+
+other_byte : (b : ℕ) → (b ≡ 32 → ⊥) → (b ≡ 10 → ⊥) → (b ≡ 9 → ⊥) → (b ≡ 13 → ⊥) → false ≡ is_blank (class_of b)
+unfolding class_number one_of
+other_byte b s n t r = go (class_of b) refl
+  where
+    go : (c : Class) → class_of b ≡ c → false ≡ is_blank c
+    go space e = absurd (eqb-false (class_number (class_of b)) 0 (sym (space_number b) ∙ ne_eqb b 32 s) (ap class_number e))
+    go tab e = absurd (eqb-false (class_number (class_of b)) 2 (sym (tab_number b) ∙ ne_eqb b 9 t) (ap class_number e))
+    go line_end e = absurd (eqb-false (class_number (class_of b)) 4 (sym (line_end_number b) ∙ rw (ne_eqb b 10 n, ne_eqb b 13 r)) (ap class_number e))
+    go quote e = refl
+    go atom_chr e = refl
+    go backslash e = refl
+    go other e = refl
+    go semicolon e = refl
+    go left e = refl
+    go right e = refl
+    go printable e = refl
+
+pub returns-in-32 : goal.returns-in-32
+unfolding class_of
+returns-in-32 c = ⊎_elim (λ e. rw e) (λ e. rw e) c.in-32.is
+
+pub returns-in-9 : goal.returns-in-9
+unfolding class_of
+returns-in-9 c = ⊎_elim (λ e. rw e) (λ e. rw e) c.in-9.is
+
+pub returns-in_default : goal.returns-in_default
+returns-in_default c = let n = c.in_default.in_default-own.rest in other_byte c.args.byte (λ e. n.0.1 (inr e)) (λ e. n.0.1 (inl e)) (λ e. n.1 (inl e)) (λ e. n.1 (inr e))

@@ -1,0 +1,18 @@
+-- Each item that is found is what the token at its place gives inside a list.
+use Rattle.std.proofs.Common.{◌≡◌, ◌<◌, ◌≤◌, ℕ, List, length, drop, get_or, refl, arith}
+use Rattle.std.proofs.lemmas.List.{get_or_past, drop_all}
+use mathlib.Core.Logic.{⊎_elim}
+use Rattle.sise_parser.specs.Plain.{atom_run}
+use Rattle.sise_parser.specs.PlainItems.{IsRunAt, IsPlainAt}
+use Rattle.sise_parser.proofs.plain.plain_at.Goals as goal
+
+-- past the end no byte stands, and no run begins
+past_end : (text : List ℕ) (lists s : ℕ) → length text ≤ s → IsPlainAt text lists s → ⊥
+unfolding atom_run
+past_end text lists s l p =
+    let z = get_or_past text s 0 l in
+    let none : atom_run (drop s text) s ≡ s = rw (drop_all s text l) refl in
+    ⊎_elim (λ (e : get_or text s 0 ≡ 40). omega arith) (⊎_elim (λ (e : (get_or text s 0 ≡ 41) × (1 < lists)). omega (arith, e.0)) (λ (r : IsRunAt text s). omega (arith, r.0))) p
+
+pub returns-then-text-start-clause-when : goal.returns-then-text-start-clause-when
+returns-then-text-start-clause-when c = (λ e. absurd (cc), λ p. absurd (past_end _ _ _ c.if-text-start.true p))

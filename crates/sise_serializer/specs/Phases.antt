@@ -1,0 +1,17 @@
+-- The words of the phases.
+-- Assumes nothing.
+use Rattle.std.specs.Prelude.{ℕ, ◌≡◌, ◌<◌, Result, MatchResult}
+use Rattle.sise_serializer.specs.declared.serializer.Phase.{Phase}
+use Rattle.sise_serializer.specs.declared.serializer.Phase.TheVariants.{Beginning, Writing, Finished, Done}
+use Rattle.sise_serializer.specs.declared.serializer.UnknownPhase.{UnknownPhase}
+
+-- a phase's number
+abbrev pub phase_word : Phase → ℕ
+phase_word Beginning = 0
+phase_word Writing = 1
+phase_word Finished = 2
+phase_word Done = 3
+
+-- the phase with this number, or an error with a number that no phase has
+abbrev pub DecodesPhase : ℕ → Result Phase UnknownPhase → Type 0
+DecodesPhase word r = MatchResult r (λ phase. phase_word phase ≡ word) (λ e. (e.0 ≡ word) × (3 < word))

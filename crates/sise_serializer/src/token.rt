@@ -1,0 +1,66 @@
+// What an item puts into the text. Each item's steps are made for its token, so they have one caller, and the record stays in registers.
+ghost use Rattle.std.specs.Prelude.{◌≡◌, ℕ, Bool, true, false, List, [], ◌∷◌, ◌+◌, ◌≤◌, length};
+ghost use Rattle.sise_serializer.specs.Bytes.{pasted};
+
+use crate::buffer::copy;
+
+pub(crate) trait Token: Copy {
+    ghost bytes: { Self → List ℕ };
+
+    ghost is_list: { Bool };
+
+    // Whether the item begins a list.
+    fn is_list(self) -> bool
+        ensures { result ≡ is_list };
+
+    fn len(self) -> usize
+        ensures { result ≡ length (bytes self) };
+
+    fn put(self, buf: &mut [u8], at: usize)
+        requires { at + length (bytes self) ≤ length buf.old }
+        ensures { buf.new ≡ pasted buf.old at (bytes self) };
+}
+
+// An atom is its bytes.
+#[derive(Clone, Copy)]
+pub(crate) struct Atom<'a>(pub(crate) &'a [u8]);
+
+impl<'a> Token for Atom<'a> {
+    ghost bytes = { λ atom. atom.0.now };
+
+    ghost is_list = { false };
+
+    fn is_list(self) -> bool {
+        false
+    }
+
+    fn len(self) -> usize {
+        self.0.len()
+    }
+
+    fn put(self, buf: &mut [u8], at: usize) {
+        copy(buf, at, self.0);
+    }
+}
+
+// A list begins with `(`.
+#[derive(Clone, Copy)]
+pub(crate) struct ListStart;
+
+impl Token for ListStart {
+    ghost bytes = { λ _. 40 ∷ [] };
+
+    ghost is_list = { true };
+
+    fn is_list(self) -> bool {
+        true
+    }
+
+    fn len(self) -> usize {
+        1
+    }
+
+    fn put(self, buf: &mut [u8], at: usize) {
+        buf[at] = b'(';
+    }
+}
