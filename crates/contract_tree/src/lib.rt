@@ -7,11 +7,12 @@ ghost use Rattle.sise_tree.specs.Decision.{decide};
 ghost use Rattle.sise_tree.specs.Held.{held_as};
 ghost use Rattle.sise_tree.specs.IndexPath.{index_path};
 ghost use Rattle.sise_tree.specs.FindPath.{find_path, found_as, found_number};
+ghost use Rattle.sise_tree.specs.declared.parse.TreeError.TheVariants.{Refused};
 ghost use Rattle.sise_tree.specs.Answers.{indexed_as, path_refusal, parsed_as, number_of, place_of, code_of};
 ghost use Rattle.sise_tree.specs.ParseTree.{parse_tree, DoesParse};
 ghost use Rattle.sise_tree.specs.ParseText.{parse_text, DoesParseText};
 
-use sise_parser::{Reader, Refusal};
+use sise_parser::{ParseError, Reader, Refusal};
 use sise_tree::{Found, Held, PathError, TreeError, TreeRead, TreeTable};
 
 // ---- parse.rt
@@ -111,4 +112,11 @@ pub fn path_code(refused: PathError) -> u32
     ensures { result ≡ (path_refusal refused).code }
 {
     refused.code()
+}
+
+// A refusal of the reader, as one of the tree calls.
+pub fn from_reader(refused: ParseError) -> TreeError
+    ensures { result ≡ Refused refused }
+{
+    TreeError::from(refused)
 }

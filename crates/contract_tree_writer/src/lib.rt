@@ -5,7 +5,7 @@
 ghost use Rattle.std.specs.Prelude.{◌≡◌};
 ghost use Rattle.sise_serializer.specs.Serializer.{style_of};
 ghost use Rattle.sise_tree.specs.Answers.{number_of};
-ghost use Rattle.sise_tree_writer.specs.Answers.{error_number, put_as};
+ghost use Rattle.sise_tree_writer.specs.Answers.{error_number, put_as, write_refusal};
 ghost use Rattle.sise_tree_writer.specs.SerializeTree.{serialize_tree, DoesWrite};
 ghost use Rattle.sise_tree_writer.specs.Writing.{write_text};
 ghost use Rattle.sise_tree_writer.specs.Sizes.{measured_as, number_in, MeasuresTree, CommitsTree, MeasuresText, CommitsText};
@@ -137,4 +137,17 @@ pub fn serialize_house(buf: &mut [u8], tree: TreeTable<'_>) -> TreeWrote
     ensures { DoesWrite (house buf.old tree.entry.text.now tree.entry.table.now) result buf.new }
 {
     sise_tree_writer::serialize_house(buf, tree)
+}
+
+// The place and the code point of a refusal: it has none.
+pub fn refusal_place(refused: WriteTreeError) -> usize
+    ensures { result ≡ (write_refusal refused).place }
+{
+    refused.place()
+}
+
+pub fn refusal_code(refused: WriteTreeError) -> u32
+    ensures { result ≡ (write_refusal refused).code }
+{
+    refused.code()
 }

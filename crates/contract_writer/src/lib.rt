@@ -4,7 +4,7 @@
 #![tactic(auto)]
 
 ghost use Rattle.std.specs.Prelude.{◌≡◌, false, MatchOption};
-ghost use Rattle.sise_serializer.specs.Serializer.{fresh_serializer, style_of, is_sound, answer_as, number_of, phase_after};
+ghost use Rattle.sise_serializer.specs.Serializer.{write_refusal, fresh_serializer, style_of, is_sound, answer_as, number_of, phase_after};
 ghost use Rattle.sise_serializer.specs.Phases.{DecodesPhase};
 ghost use Rattle.sise_serializer.specs.Calls.{Does, put_atom_call, begin_list_call, end_list_call, finish_call};
 
@@ -105,4 +105,17 @@ pub fn phase_from(word: u64) -> Result<Phase, UnknownPhase>
     ensures { DecodesPhase word result }
 {
     Phase::try_from(word)
+}
+
+// The place and the code point of a refusal: it has none.
+pub fn refusal_place(refused: WriteError) -> usize
+    ensures { result ≡ (write_refusal refused).place }
+{
+    refused.place()
+}
+
+pub fn refusal_code(refused: WriteError) -> u32
+    ensures { result ≡ (write_refusal refused).code }
+{
+    refused.code()
 }

@@ -64,8 +64,8 @@ pub fn find_spot(
     })
 }
 
-// Copies `src` to the bytes of `buf` that begin at `at`. One byte, as most line breaks are, needs no loop. The loop counts by hand: by copy_from_slice, which
-// was tried, a call of the writer and a tree took a fifth longer, since most atoms are short.
+// Copies `src` to the bytes of `buf` that begin at `at`. One byte, as most line breaks are, needs no loop. The loop counts by hand: by copy_from_slice, measured
+// alone, a tree is written five to ten hundredths more slowly, and single calls as fast.
 pub(crate) fn copy(buf: &mut [u8], at: usize, src: &[u8])
     requires { at + length src.now ≤ length buf.old }
     ensures { buf.new ≡ pasted buf.old at src.now }

@@ -205,16 +205,9 @@ fn is_whole(at: usize, end: usize, len: usize) -> bool
     at == 0 && end == len
 }
 
-// Which atom the first `len` bytes of `rest` are, a text from an atom's first byte on; a length past its end is none. It does as check_atom does, and does
-// not call it: so the loop over a plain atom becomes a part of the test of a table, and what is left of an atom is a call. By check_atom a flat tree, which is
-// tested before it is written, was written more slowly than the crate writes it.
+// Which atom the first `len` bytes of `rest` are, a text from an atom's first byte on; a length past its end is none.
 pub fn check_atom_prefix(rest: &[u8], len: usize) -> Option<AtomKind>
     ensures { result ≡ kind_prefix rest.now len }
 {
-    let atom = rest.get(..len)?;
-    let end = plain_end(atom);
-    if end != 0 && end == atom.len() {
-        return Some(AtomKind::Plain);
-    }
-    kind_from(atom, end)
+    check_atom(rest.get(..len)?)
 }

@@ -4,7 +4,6 @@ use Rattle.std.specs.Prelude.{None}
 use borrow.Author.Tests.{le-leb, lt-leb}
 use native.Mathlib.Nat.{sub-zero}
 use Rattle.sise_util.specs.Atom.{kind_of, kind_prefix}
-use Rattle.sise_util.proofs.PlainRuns.{plain_all}
 use Rattle.sise_util.proofs.util.check_atom_prefix.Goals as goal
 
 past_end : (rest : List ℕ) (n : ℕ) → length rest < n → None ≡ kind_prefix rest n
@@ -15,16 +14,8 @@ inside : (rest : List ℕ) (n : ℕ) → n ≤ length rest → kind_of (take n r
 unfolding kind_prefix
 inside rest n h = sym (rw (le-leb n (length rest) h))
 
-pub returns-in_err-atom : goal.returns-in_err-atom
-returns-in_err-atom c = c.from_residual.ensures ∙ past_end _ _ (elim c.in_err-atom.ensures.lookup.0 [ inl z ↦ absurd (omega arith) | inr h ↦ h ])
-
-pub returns-then-end-atom : goal.returns-then-end-atom
-returns-then-end-atom c =
-    let h = c.in_ok-atom.ensures.lookup.0 in
-    plain_all c.plain_end-end.ensures c.if-end-ne0.true c.if-end-atom.true ∙ ap kind_of (h.2 ∙ ap (λ (n : ℕ). take n c.args.rest.now) (sub-zero c.args.len)) ∙ inside _ _ h.1
-
-pub kind_from-requires : goal.kind_from-requires
-kind_from-requires c = c.plain_end-end.ensures
+pub returns-in_err-get : goal.returns-in_err-get
+returns-in_err-get c = c.from_residual.ensures ∙ past_end _ _ (elim c.in_err-get.ensures.lookup.0 [ inl z ↦ absurd (omega arith) | inr h ↦ h ])
 
 pub returns : goal.returns
-returns c = let h = c.in_ok-atom.ensures.lookup.0 in c.kind_from.ensures ∙ ap kind_of (h.2 ∙ ap (λ (n : ℕ). take n c.args.rest.now) (sub-zero c.args.len)) ∙ inside _ _ h.1
+returns c = let h = c.in_ok-get.ensures.lookup.0 in c.check_atom.ensures ∙ ap kind_of (h.2 ∙ ap (λ (n : ℕ). take n c.args.rest.now) (sub-zero c.args.len)) ∙ inside _ _ h.1
