@@ -12,10 +12,6 @@ use lines::Printer;
 use sise_util::classes::class_of;
 use sise_util::{AtomKind, Character, IllFormed, character_at, check_atom, check_atom_prefix};
 
-fn bit(yes: bool) -> u8 {
-    if yes { b'1' } else { b'0' }
-}
-
 // 1, 2 or 3, and 0 for no atom.
 fn put_kind(out: &mut Printer, kind: Option<AtomKind>) {
     out.put_decimal(sise_util::kind_number(kind) as u64);
@@ -40,16 +36,17 @@ fn put_character(out: &mut Printer, found: Result<Character, IllFormed>) {
     }
 }
 
+// What four functions say of a byte. It is no value's text, so that no trait's method stands for it; the two truths are put as 0 or 1.
 fn put_byte_line(out: &mut Printer, chr: u8) {
     out.put_decimal(chr as u64);
     out.put_number(class_of(chr) as usize);
-    out.put_byte(b' ');
-    out.put_byte(bit(sise_util::is_atom_chr(chr)));
-    out.put_byte(bit(sise_util::is_atom_string_chr(chr)));
+    out.put_number(sise_util::is_atom_chr(chr) as usize);
+    out.put_decimal(sise_util::is_atom_string_chr(chr) as u64);
     out.put_byte(b'\n');
 }
 
-// What check_atom_prefix says of each length, one past the case last.
+// What check_atom_prefix says of each length, one past the case last. This and the next function are two: a generic one would take what a turn puts as a
+// closure over the printer and the case, and is longer than its loop.
 fn put_prefixes(out: &mut Printer, case: &[u8]) {
     for len in 0..=case.len() + 1 {
         put_kind(out, check_atom_prefix(case, len));
@@ -71,6 +68,7 @@ fn put_case_line(out: &mut Printer, case: &[u8]) {
     out.put_byte(b'\n');
 }
 
+// A digit's value, and 0 for other bytes. The library's `to_digit` reads small letters as well, which stand for 0 here; with a test for them it is no plainer.
 fn digit_value(digit: u8) -> u8
     ensures { result < 16 }
 {

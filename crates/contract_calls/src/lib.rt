@@ -5,11 +5,12 @@
 
 ghost use Rattle.std.specs.Prelude.{◌≡◌, ◌+◌, ◌*◌, ◌≤◌, length};
 ghost use Rattle.sise_serializer.specs.Bytes.{pasted, pasted_if};
+ghost use Rattle.sise_serializer.specs.Calls.{Does};
 ghost use Rattle.sise_serializer.specs.Parts.{spot_of, gap_bytes, break_bytes};
 ghost use Rattle.sise_serializer.specs.Serializer.{style_of, new_line_of, answer_as};
-ghost use Rattle.sise_serializer.specs.Words.{answer_word, has_call, Runs, RunsFrom};
+ghost use Rattle.sise_serializer.specs.Words.{call_as, answer_word, ReadsCall, Runs, RunsFrom};
 
-use sise_serializer::{Ran, Serializer, SerializerStyle, Spot, WriteError};
+use sise_serializer::{Call, Ran, Serializer, SerializerStyle, Spot, WriteError, Wrote};
 
 // ---- calls.rt
 
@@ -47,11 +48,23 @@ pub fn put_word(answer: Result<usize, WriteError>) -> u64
     sise_serializer::put_word(answer)
 }
 
-// Whether a call's four words stand at `at`.
-pub fn has_call(words: &[u64], at: usize) -> bool
-    ensures { result ≡ has_call words.now at }
+// The call that the first four words mean, and the words behind them.
+pub fn next_call<'a, 'b>(words: &'b [u64], atoms: &'a [u8]) -> Option<(Call<'a>, &'b [u64])>
+    ensures { ReadsCall words.now atoms.now result }
 {
-    sise_serializer::has_call(words, at)
+    sise_serializer::next_call(words, atoms)
+}
+
+// Makes a call by the method of its own.
+pub fn make_call(
+    serializer: Serializer,
+    call: Call<'_>,
+    style: SerializerStyle<'_>,
+    buf: &mut [u8],
+) -> Wrote
+    ensures { Does (call_as call.entry) (style_of style.entry) serializer buf.old result buf.new }
+{
+    serializer.make_call(call, style, buf)
 }
 
 // ---- buffer.rt

@@ -4,7 +4,7 @@
 #![tactic(auto)]
 
 ghost use Rattle.std.specs.Prelude.{◌≡◌, ◌≤◌, ◌↔◌, true, eqb, length, drop, get_or, IfSome, IsSome};
-ghost use Rattle.sise_parser.specs.Refusals.{refusal_of};
+ghost use Rattle.sise_parser.specs.Refusals.{refusal_of, answer_number};
 ghost use Rattle.sise_parser.specs.Lexer.{between};
 ghost use Rattle.sise_parser.specs.Plain.{skip_blanks, atom_run, AtomTo};
 ghost use Rattle.sise_parser.specs.Reader.{fresh_reader, is_sound, next_item, finish_reading, part_of, next, reader, item as answer_item};
@@ -116,4 +116,11 @@ pub fn code(error: ParseError) -> u32
     ensures { result ≡ (refusal_of error).code }
 {
     error.code()
+}
+
+// The number of an answer's refusal, 0 where the call was accepted.
+pub fn answer_number<T: Copy, E: Refusal>(answer: Result<T, E>) -> u32
+    ensures { result ≡ answer_number E.meaning answer }
+{
+    sise_parser::answer_number(answer)
 }

@@ -3,6 +3,7 @@
 #![tactic(auto)]
 
 ghost use Rattle.std.specs.Prelude.{◌≡◌, ◌<◌, ◌^◌};
+ghost use Rattle.sise_tree.specs.NodeWords.{node_words};
 ghost use Rattle.sise_tree.specs.Decision.{decide};
 ghost use Rattle.sise_tree.specs.Held.{held_as};
 ghost use Rattle.sise_tree.specs.IndexPath.{index_path};
@@ -12,8 +13,8 @@ ghost use Rattle.sise_tree.specs.Answers.{indexed_as, path_refusal, parsed_as, n
 ghost use Rattle.sise_tree.specs.ParseTree.{parse_tree, DoesParse};
 ghost use Rattle.sise_tree.specs.ParseText.{parse_text, DoesParseText};
 
-use sise_parser::{ParseError, Reader, Refusal};
-use sise_tree::{Found, Held, PathError, TreeError, TreeRead, TreeTable};
+use sise_parser::{ParseError, Reader, Refusal, answer_number};
+use sise_tree::{Found, Held, NodeWords, PathError, TreeError, TreeRead, TreeTable};
 
 // ---- parse.rt
 
@@ -28,7 +29,7 @@ pub fn parse_tree(text: &[u8], reader: Reader, table: &mut [u32]) -> TreeRead
 pub fn number(answer: Result<usize, TreeError>) -> u32
     ensures { result ≡ number_of (parsed_as answer) }
 {
-    answer.map_or_else(|error| error.number(), |_| 0)
+    answer_number(answer)
 }
 
 // Its place, 0 where there is none.
@@ -56,6 +57,13 @@ pub fn parse_text(text: &[u8], table: &mut [u32]) -> Result<usize, TreeError>
 
 // ---- tree.rt
 
+// Node `i`'s words, where the table has them all.
+pub fn node(table: &[u32], text: &[u8], i: usize) -> Option<NodeWords>
+    ensures { result ≡ node_words table.now i }
+{
+    TreeTable { table, text }.node(i)
+}
+
 // The node at the end of the path: its index in the table.
 pub fn index_path(table: &[u32], text: &[u8], path: &[u64]) -> Result<usize, PathError>
     ensures { indexed_as result ≡ index_path table.now text.now path.now }
@@ -67,7 +75,7 @@ pub fn index_path(table: &[u32], text: &[u8], path: &[u64]) -> Result<usize, Pat
 pub fn indexed_number(indexed: Result<usize, PathError>) -> u32
     ensures { result ≡ number_of (indexed_as indexed) }
 {
-    indexed.map_or_else(|error| error.number(), |_| 0)
+    answer_number(indexed)
 }
 
 // What the table holds over the text: a tree of atoms, a tree with an atom that is none, or no tree.
@@ -98,7 +106,7 @@ pub fn find_path(table: &[u32], text: &[u8], path: &[u64]) -> Result<Found, Path
 pub fn found_number(found: Result<Found, PathError>) -> u32
     ensures { result ≡ found_number (found_as found) }
 {
-    found.map_or_else(|error| error.number(), |_| 0)
+    answer_number(found)
 }
 
 // The place and the code point of a refusal of the two: it has none.

@@ -11,10 +11,10 @@ ghost use Rattle.sise_tree_writer.specs.Writing.{write_text};
 ghost use Rattle.sise_tree_writer.specs.Sizes.{measured_as, number_in, MeasuresTree, CommitsTree, MeasuresText, CommitsText};
 ghost use Rattle.sise_tree_writer.specs.House.{house_at, house};
 
-use sise_parser::Refusal;
+use sise_parser::{Refusal, answer_number};
 use sise_serializer::{Serializer, SerializerStyle};
 use sise_tree::TreeTable;
-use sise_tree_writer::{TreeSize, TreeWrote, WriteTreeError, answer_number};
+use sise_tree_writer::{TreeSize, TreeWrote, WriteTreeError};
 
 // ---- serialize.rt
 

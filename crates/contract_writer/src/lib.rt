@@ -3,15 +3,17 @@
 // contract has to refuse it.
 #![tactic(auto)]
 
-ghost use Rattle.std.specs.Prelude.{◌≡◌, false, MatchOption};
+ghost use Rattle.std.specs.Prelude.{◌≡◌, false, [], ◌∷◌, MatchOption};
 ghost use Rattle.sise_serializer.specs.Serializer.{write_refusal, fresh_serializer, style_of, is_sound, answer_as, number_of, phase_after};
 ghost use Rattle.sise_serializer.specs.Phases.{DecodesPhase};
-ghost use Rattle.sise_serializer.specs.Calls.{Does, put_atom_call, begin_list_call, end_list_call, finish_call};
+ghost use Rattle.sise_serializer.specs.Parts.{wrote_of};
+ghost use Rattle.sise_serializer.specs.Plan.{behind_first, behind_new_line, behind_in_line, behind_end_on_new_line, behind_end_in_line, behind_finish, PlansAs, PlansItem};
+ghost use Rattle.sise_serializer.specs.Calls.{Does, step, put_atom_call, begin_list_call, end_list_call, finish_call};
 
-use sise_parser::Refusal;
+use sise_parser::{Refusal, answer_number};
 use sise_serializer::{
-    Phase, Serializer, SerializerStyle, SoundSerializer, UnknownPhase, WriteError, Wrote,
-    answer_number,
+    Phase, Placed, Planned, Serializer, SerializerStyle, SoundSerializer, UnknownPhase, WriteError,
+    Wrote,
 };
 
 // A writer before the first item, at the start of its buffer.
@@ -79,6 +81,20 @@ pub fn finish(
     serializer.finish(style, buf, insert_line_break)
 }
 
+// The same record.
+pub fn by_fields(serializer: Serializer) -> Serializer
+    ensures { result ≡ serializer }
+{
+    serializer.by_fields()
+}
+
+// What a call on a record hands back.
+pub fn wrote<E: Copy>(serializer: Serializer, placed: Result<Placed, E>) -> Wrote<E>
+    ensures { result ≡ wrote_of serializer placed }
+{
+    serializer.wrote(placed)
+}
+
 // 01's number of an answer, 0 for an offset.
 pub fn number(answer: Result<usize, WriteError>) -> u32
     ensures { result ≡ number_of (answer_as answer) }
@@ -118,4 +134,97 @@ pub fn refusal_code(refused: WriteError) -> u32
     ensures { result ≡ (write_refusal refused).code }
 {
     refused.code()
+}
+
+// ---- the record behind each step, whose token ends at `position`
+
+// Behind the first item, whose token has `len` bytes.
+pub fn behind_first(w: SoundSerializer, position: usize, len: usize, is_list: bool) -> Serializer
+    ensures { result ≡ behind_first w.serializer position len is_list }
+{
+    w.behind_first(position, len, is_list)
+}
+
+// Behind an item on a new line of `line_len` bytes.
+pub fn behind_new_line(
+    w: SoundSerializer,
+    position: usize,
+    line_len: usize,
+    is_list: bool,
+) -> Serializer
+    ensures { result ≡ behind_new_line w.serializer position line_len is_list }
+{
+    w.behind_new_line(position, line_len, is_list)
+}
+
+// Behind an item in the same line, which then has `line_len` bytes.
+pub fn behind_in_line(
+    w: SoundSerializer,
+    position: usize,
+    line_len: usize,
+    is_list: bool,
+) -> Serializer
+    ensures { result ≡ behind_in_line w.serializer position line_len is_list }
+{
+    w.behind_in_line(position, line_len, is_list)
+}
+
+// Behind a `)` on a new line of `line_len` bytes.
+pub fn behind_end_on_new_line(w: SoundSerializer, position: usize, line_len: usize) -> Serializer
+    ensures { result ≡ behind_end_on_new_line w.serializer position line_len }
+{
+    w.behind_end_on_new_line(position, line_len)
+}
+
+// Behind a `)` in the same line.
+pub fn behind_end_in_line(w: SoundSerializer, position: usize) -> Serializer
+    ensures { result ≡ behind_end_in_line w.serializer position }
+{
+    w.behind_end_in_line(position)
+}
+
+// Behind the end of the text, with a line break or without.
+pub fn behind_finish(w: SoundSerializer, position: usize, insert_line_break: bool) -> Serializer
+    ensures { result ≡ behind_finish w.serializer position insert_line_break }
+{
+    w.behind_finish(position, insert_line_break)
+}
+
+// ---- calls planned in a buffer of `room` bytes, with none written
+
+// An item whose token has `len` bytes.
+pub fn plan_item(
+    w: SoundSerializer,
+    style: SerializerStyle<'_>,
+    room: usize,
+    len: usize,
+    is_list: bool,
+    break_line_at: u64,
+) -> Result<Planned, WriteError>
+    ensures { PlansItem (style_of style.entry) room w.serializer len is_list break_line_at result }
+{
+    w.plan_item(style, room, len, is_list, break_line_at)
+}
+
+// The end of the innermost list.
+pub fn plan_end(
+    w: SoundSerializer,
+    style: SerializerStyle<'_>,
+    room: usize,
+) -> Result<Planned, WriteError>
+    ensures { PlansAs (style_of style.entry) room w.serializer (41 ∷ []) (step (style_of style.entry) room w.serializer end_list_call) result }
+{
+    w.plan_end(style, room)
+}
+
+// The end of the text, with a line break if wished.
+pub fn plan_finish(
+    w: SoundSerializer,
+    style: SerializerStyle<'_>,
+    room: usize,
+    insert_line_break: bool,
+) -> Result<Planned, WriteError>
+    ensures { PlansAs (style_of style.entry) room w.serializer [] (step (style_of style.entry) room w.serializer (finish_call insert_line_break)) result }
+{
+    w.plan_finish(style, room, insert_line_break)
 }

@@ -38,6 +38,7 @@ fn no_tree() -> Result<usize, PathError> {
     tree.index_path(&[])
 }
 
+// This and no_room make one call each with a record of their own; a generic one would take the call as a closure, and is longer than both.
 fn not_finished() -> Result<usize, WriteError> {
     let mut buf = [0; 1];
     Serializer::new().finish(STYLE, &mut buf, true).answer

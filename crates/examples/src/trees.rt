@@ -1,6 +1,6 @@
 // The worked table and its paths; and the tree written again.
 use crate::STYLE;
-use crate::line::{put_answer, put_text};
+use crate::line::put_answer;
 use lines::Printer;
 use sise_parser::Reader;
 use sise_serializer::Serializer;
@@ -34,11 +34,11 @@ fn put_paths(out: &mut Printer, tree: TreeTable<'_>) {
 fn put_again(out: &mut Printer, tree: TreeTable<'_>) {
     let mut buf = [0; 64];
     let line = serialize_tree(Serializer::new(), STYLE, &mut buf, tree, u64::MAX).serializer;
-    put_text(out, &buf, line.position);
+    out.put_text(b"", buf.get(..line.position));
     let broken = serialize_house_at(&mut buf, tree, 0).serializer;
-    put_text(out, &buf, broken.position);
+    out.put_text(b"", buf.get(..broken.position));
     let house = serialize_house(&mut buf, tree).serializer;
-    put_text(out, &buf, house.position);
+    out.put_text(b"", buf.get(..house.position));
 }
 
 pub(crate) fn put_trees(out: &mut Printer) {

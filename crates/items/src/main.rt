@@ -8,17 +8,16 @@ ghost use Rattle.lines.specs.Put.{put};
 ghost use Rattle.items.specs.Last.{refused_line, last_line};
 
 use lines::Printer;
-use sise_parser::{ParseError, Phase, Reader, Refusal};
+use sise_parser::{ParseError, Phase, Reader};
 
 fn put_refused(out: &mut Printer, error: ParseError)
     ensures { out.new ≡ put out.old (refused_line error) }
 {
-    out.put_bytes(b"refused");
-    out.put_number(error.number() as usize);
-    out.put_number(error.place());
+    out.put_refusal(b"refused", error, 2);
     out.put_byte(b'\n');
 }
 
+// replay_reader has a function of the same name for its own line: one for both would take both words and how many numbers stand behind them.
 fn put_finished(out: &mut Printer, finished: Result<(), ParseError>)
     ensures { out.new ≡ put out.old (last_line finished) }
 {

@@ -1,7 +1,9 @@
 -- What putting bytes into a program's output does. The bytes are collected in a block of 4096, which is written whenever it is full.
 -- Assumes nothing.
-use Rattle.std.specs.Prelude.{◌≡◌, refl, cond, List, [], ◌∷◌, ◌++◌, ℕ, zero, suc, ◌+◌, ◌/◌, ◌%◌, ltb, set}
+use Rattle.std.specs.Prelude.{◌≡◌, refl, cond, List, [], ◌∷◌, ◌++◌, ℕ, zero, suc, ◌+◌, ◌/◌, ◌%◌, ltb, set, take, Option, None, Some}
+use Rattle.std.specs.Borrow.{Bor}
 use Rattle.io.specs.Digits.{hex_digit_ascii}
+use Rattle.sise_parser.specs.Refusals.{Refusal}
 use Rattle.sise_parser.specs.declared.reader.ParsedItem.{ParsedItem}
 
 -- the place behind the bytes that wait, and the block
@@ -25,6 +27,11 @@ unfoldable pub put : Output → List ℕ → Output
 put o [] = o
 put o (byte ∷ s) = put (put_byte o byte) s
 
+-- a mark, a text and a line end; nothing where there is no text
+unfoldable pub text_line : List ℕ → Option (Bor (List ℕ)) → List ℕ
+text_line mark None = []
+text_line mark (Some text) = mark ++ text.now ++ (10 ∷ [])
+
 -- the k last decimal digits of a number, without zeros before the first: the last one behind those of the tenth
 unfoldable pub decimal_of : ℕ → ℕ → List ℕ
 decimal_of zero n = []
@@ -38,11 +45,20 @@ decimal n = decimal_of 20 n
 unfoldable pub number : ℕ → List ℕ
 number n = 32 ∷ decimal n
 
+-- so does each of several
+unfoldable pub numbers_text : List ℕ → List ℕ
+numbers_text [] = []
+numbers_text (n ∷ s) = number n ++ numbers_text s
+
 -- `L place`, `A place length` or `E place`
 unfoldable pub item_text : ParsedItem → List ℕ
 item_text (ParsedItem.ListStart p) = 76 ∷ number p
 item_text (ParsedItem.Atom p n) = 65 ∷ (number p ++ number n)
 item_text (ParsedItem.ListEnd p) = 69 ∷ number p
+
+-- a word, and behind it so many parts of a refusal: its number, its place, its code point
+unfoldable pub refusal_text : List ℕ → ℕ → Refusal → List ℕ
+refusal_text word parts r = word ++ numbers_text (take parts (r.number ∷ r.place ∷ r.code ∷ []))
 
 -- 0 has one digit; a zero inside stays
 some_decimals : (decimal 0 ≡ 48 ∷ []) × (decimal 65537 ≡ 54 ∷ 53 ∷ 53 ∷ 51 ∷ 55 ∷ []) × (decimal 100 ≡ 49 ∷ 48 ∷ 48 ∷ [])

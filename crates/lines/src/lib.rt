@@ -2,9 +2,10 @@
 #![tactic(auto)]
 
 ghost use Rattle.std.specs.Prelude.{◌≡◌, ◌≤◌, ◌↔◌, [], ◌∷◌, IsTrue};
-ghost use Rattle.lines.specs.Put.{output, put, decimal, number, item_text};
+ghost use Rattle.lines.specs.Put.{output, put, decimal, number, numbers_text, text_line, item_text, refusal_text};
 
-use sise_parser::ParsedItem;
+use sise_parser::{ParsedItem, Refusal};
+use std::cmp::min;
 use std::marker::Model;
 
 // The standard streams by their numbers.
@@ -13,7 +14,9 @@ pub const STDIN: i32 = 0;
 pub const STDOUT: i32 = 1;
 
 // A program's output: the block, and the place behind the bytes in it that wait to be written. A clause sees both as an `Output`. It is never let go,
-// so that a program ends with `finish` and no byte is lost.
+// so that a program ends with `finish` and no byte is lost. It is a block and a place, and no `Vec`, since the project uses no heap. A value's text is
+// put by a method or by a function over a printer, and no value has a `Display`: `write!` promises its text only where it answers `Ok`, and no clause
+// says that it does; the methods here cannot fail, and promise each byte.
 pub struct Printer {
     place: usize,
     block: [u8; 4096],
@@ -48,7 +51,7 @@ impl Printer {
         self.place = 0;
     }
 
-    // Writes what waits, at the program's end.
+    // Writes what waits, at the program's end. It has no clause: nothing is left of the output, and no clause can say what a file holds.
     pub fn finish(mut self) {
         self.flush();
         let Printer { place: _, block: _ } = self;
@@ -78,7 +81,18 @@ impl Printer {
         }
     }
 
-    // Puts the decimal digits of n. `write!` promises its text only where it answers `Ok`, and no clause says that it does; this cannot fail.
+    // Puts a mark, a text and a line end; nothing where there is no text.
+    pub fn put_text(&mut self, mark: &[u8], text: Option<&[u8]>)
+        ensures { self.new ≡ put self.old (text_line mark.now text.entry) }
+    {
+        if let Some(text) = text {
+            self.put_bytes(mark);
+            self.put_bytes(text);
+            self.put_byte(b'\n');
+        }
+    }
+
+    // Puts the decimal digits of n.
     pub fn put_decimal(&mut self, n: u64)
         ensures { self.new ≡ put self.old (decimal n) }
     {
@@ -93,6 +107,15 @@ impl Printer {
     {
         self.put_byte(b' ');
         self.put_decimal(n as u64);
+    }
+
+    // Puts each of the numbers behind a space.
+    pub fn put_numbers(&mut self, numbers: &[usize])
+        ensures { self.new ≡ put self.old (numbers_text numbers.now) }
+    {
+        for &number in numbers {
+            self.put_number(number);
+        }
     }
 
     // Puts a letter, and a number behind it.
@@ -115,5 +138,18 @@ impl Printer {
             }
             ParsedItem::ListEnd { pos } => self.put_letter(b'E', pos),
         }
+    }
+
+    // Puts a word, and behind it so many parts of a refusal, in the order number, place, code point.
+    pub fn put_refusal<E: Refusal>(&mut self, word: &[u8], error: E, parts: usize)
+        ensures { self.new ≡ put self.old (refusal_text word.now parts (E.meaning error)) }
+    {
+        let numbers = [
+            error.number() as usize,
+            error.place(),
+            error.code() as usize,
+        ];
+        self.put_bytes(word);
+        self.put_numbers(&numbers[..min(parts, 3)]);
     }
 }

@@ -60,6 +60,7 @@ fn run_case(out: &mut Printer, letter: u8, script: &mut Script<'_>) -> Result<()
     }
 }
 
+// A `while` loop and no `for`: a case says by what it reads where the next one begins, so that an iterator over the script cannot be lent at the same time.
 fn run_script(out: &mut Printer, script: &mut Script<'_>) -> Result<(), Malformed> {
     while let Some(letter) = script.next_byte() {
         run_case(out, letter, script)?;

@@ -2,13 +2,13 @@
 ghost use Rattle.std.specs.Prelude.{◌≤◌, OnOk};
 ghost use Rattle.script.specs.Onward.{Onward};
 
-use crate::writer_case::{put_answer, put_serializer, put_written, style_of};
+use crate::writer_case::{put_answer, put_call};
 use lines::Printer;
 use replay_reader::{put_reader, put_refusal};
 use script::{Malformed, Script, TextCase};
-use sise_parser::{Reader, Refusal};
+use sise_parser::Reader;
 use sise_serializer::{Serializer, SerializerStyle};
-use sise_tree::{Found, PathError, TreeTable, parse_tree};
+use sise_tree::{TreeTable, parse_tree};
 use sise_tree_writer::{
     TreeSize, TreeWrote, WriteTreeError, commit_tree, measure_tree, serialize_house,
     serialize_house_at, serialize_tree,
@@ -55,24 +55,16 @@ fn store(table: &mut [u32], numbers: &[u64]) {
     }
 }
 
-// The lines of a call that wrote a tree.
+// The lines of a call that wrote a tree: the call's, and what is written, the buffer up to the position, which no call moves past the buffer's end.
 fn put_wrote(out: &mut Printer, buf: &[u8], wrote: TreeWrote) {
-    put_answer(out, b'@', wrote.answer);
-    put_serializer(out, wrote.serializer);
-    out.put_byte(b'\n');
-    put_written(out, buf, wrote.serializer.position);
+    put_call(out, wrote.answer, wrote.serializer);
+    out.put_text(b"= ", buf.get(..wrote.serializer.position));
 }
 
 // The line of an enquiry.
 fn put_size(out: &mut Printer, size: Result<TreeSize, WriteTreeError>) {
-    match size {
-        Ok(size) => {
-            out.put_letter(b'%', size.bytes);
-            out.put_number(size.breaks);
-            out.put_number(size.indents);
-        }
-        Err(error) => out.put_letter(b'!', error.number() as usize),
-    }
+    let numbers = size.map(|size| [size.bytes, size.breaks, size.indents]);
+    put_answer(out, b'%', numbers);
     out.put_byte(b'\n');
 }
 
@@ -151,21 +143,13 @@ impl Writing<'_> {
     }
 }
 
-fn put_found(out: &mut Printer, found: Result<Found, PathError>) {
-    match found {
-        Ok(found) => {
-            out.put_letter(b'#', found.index);
-            out.put_number(found.seen);
-        }
-        Err(error) => out.put_letter(b'!', error.number() as usize),
-    }
-}
-
 // The line of a path, which index_path and find_path follow.
 fn put_path(out: &mut Printer, tree: TreeTable<'_>, path: &[u64]) {
-    put_answer(out, b'#', tree.index_path(path));
+    let index = tree.index_path(path);
+    let found = tree.find_path(path);
+    put_answer(out, b'#', index.map(|index| [index]));
     out.put_bytes(b" | ");
-    put_found(out, tree.find_path(path));
+    put_answer(out, b'#', found.map(|found| [found.index, found.seen]));
     out.put_byte(b'\n');
 }
 
@@ -188,7 +172,7 @@ pub(crate) fn run(out: &mut Printer, script: &mut Script<'_>) -> Result<(), Malf
         table,
     };
     let writing = Writing {
-        style: style_of(writer),
+        style: writer.style,
         tree,
         break_line_at: calls.break_line_at,
         lists: calls.lists,

@@ -3,22 +3,29 @@ ghost use Rattle.std.specs.Prelude.{OnOk};
 ghost use Rattle.script.specs.Onward.{Onward};
 
 use lines::Printer;
-use script::{Call, Malformed, Script, WriterCase};
+use script::{Malformed, Script};
 use sise_parser::Refusal;
-use sise_serializer::{Serializer, SerializerStyle, Wrote};
+use sise_serializer::Serializer;
 
-// A value behind its mark, or a refusal's number.
-pub(crate) fn put_answer<E: Refusal>(out: &mut Printer, mark: u8, answer: Result<usize, E>) {
+// Numbers behind their mark, or a refusal's number.
+pub(crate) fn put_answer<E: Refusal, const N: usize>(
+    out: &mut Printer,
+    mark: u8,
+    answer: Result<[usize; N], E>,
+) {
     match answer {
-        Ok(value) => out.put_letter(mark, value),
-        Err(error) => out.put_letter(b'!', error.number() as usize),
+        Ok(numbers) => {
+            out.put_byte(mark);
+            out.put_numbers(&numbers);
+        }
+        Err(error) => out.put_refusal(b"!", error, 1),
     }
 }
 
 // The record, behind a bar.
-pub(crate) fn put_serializer(out: &mut Printer, serializer: Serializer) {
+fn put_serializer(out: &mut Printer, serializer: Serializer) {
     out.put_bytes(b" |");
-    let numbers = [
+    out.put_numbers(&[
         serializer.position,
         serializer.phase as usize,
         serializer.lists,
@@ -28,50 +35,14 @@ pub(crate) fn put_serializer(out: &mut Printer, serializer: Serializer) {
         serializer.breaks,
         serializer.indents,
         serializer.broken,
-    ];
-    for number in numbers {
-        out.put_number(number);
-    }
+    ]);
 }
 
-// The line of a call.
-fn put_call(out: &mut Printer, wrote: Wrote) {
-    put_answer(out, b'@', wrote.answer);
-    put_serializer(out, wrote.serializer);
+// The line of a call: what it answered, and the record that it left.
+pub(crate) fn put_call<E: Refusal>(out: &mut Printer, answer: Result<usize, E>, left: Serializer) {
+    put_answer(out, b'@', answer.map(|offset| [offset]));
+    put_serializer(out, left);
     out.put_byte(b'\n');
-}
-
-// The line of what stands in the buffer up to the position, which no call moves past the buffer's end.
-pub(crate) fn put_written(out: &mut Printer, buf: &[u8], position: usize) {
-    if let Some(text) = buf.get(..position) {
-        out.put_bytes(b"= ");
-        out.put_bytes(text);
-        out.put_byte(b'\n');
-    }
-}
-
-pub(crate) fn style_of(case: WriterCase<'_>) -> SerializerStyle<'_> {
-    SerializerStyle {
-        line_break: case.line_break,
-        indentation: case.indentation,
-    }
-}
-
-fn make_call(
-    serializer: Serializer,
-    style: SerializerStyle<'_>,
-    buf: &mut [u8],
-    call: Call<'_>,
-) -> Wrote {
-    match call {
-        Call::PutAtom {
-            atom,
-            break_line_at,
-        } => serializer.put_atom(style, buf, atom, break_line_at),
-        Call::BeginList { break_line_at } => serializer.begin_list(style, buf, break_line_at),
-        Call::EndList => serializer.end_list(style, buf),
-        Call::Finish { line_break } => serializer.finish(style, buf, line_break),
-    }
 }
 
 // Runs the writer's case whose letter was read: makes its calls, all in one buffer.
@@ -79,17 +50,16 @@ pub(crate) fn run(out: &mut Printer, script: &mut Script<'_>) -> Result<(), Malf
     ensures { OnOk result (Onward script.old script.new) }
 {
     let case = script.read_writer_case()?;
-    let style = style_of(case);
     let mut memory = [170; 4096];
     let buf = &mut memory[..case.room];
     let mut serializer = Serializer::new();
     out.put_bytes(b"case\n");
     for _ in 0..case.calls {
         let call = script.read_call()?;
-        let wrote = make_call(serializer, style, buf, call);
+        let wrote = serializer.make_call(call, case.style, buf);
         serializer = wrote.serializer;
-        put_call(out, wrote);
+        put_call(out, wrote.answer, serializer);
     }
-    put_written(out, buf, serializer.position);
+    out.put_text(b"= ", buf.get(..serializer.position));
     Ok(())
 }

@@ -1,15 +1,10 @@
--- The reader's record as replay prints it.
+-- The reader's record and a refusal, as replay prints them.
 -- Assumes nothing.
 use Rattle.std.specs.Prelude.{List, ◌∷◌, ◌++◌, ℕ}
+use Rattle.sise_parser.specs.Phases.{phase_number}
 use Rattle.sise_parser.specs.Refusals.{Refusal}
-use Rattle.sise_parser.specs.declared.reader.Phase.{Phase}
 use Rattle.sise_parser.specs.declared.reader.Reader.{Reader}
 use Rattle.lines.specs.Put.{number}
-
-unfoldable pub phase_number : Phase → ℕ
-phase_number Phase.Beginning = 0
-phase_number Phase.Parsing = 1
-phase_number Phase.Finishing = 2
 
 -- ` | position phase lists`
 unfoldable pub reader_text : Reader → List ℕ

@@ -14,9 +14,7 @@ use sise_parser::{Next, ParseError, ParsedItem, Reader, Refusal, atom_bytes};
 pub fn put_refusal<E: Refusal>(out: &mut Printer, error: E)
     ensures { out.new ≡ put out.old (refusal_text (E.meaning error)) }
 {
-    out.put_letter(b'!', error.number() as usize);
-    out.put_number(error.place());
-    out.put_number(error.code() as usize);
+    out.put_refusal(b"!", error, 3);
 }
 
 // The record, behind a bar: position, phase and lists.
@@ -24,9 +22,7 @@ pub fn put_reader(out: &mut Printer, reader: Reader)
     ensures { out.new ≡ put out.old (reader_text reader) }
 {
     out.put_bytes(b" |");
-    out.put_number(reader.position);
-    out.put_number(reader.phase as usize);
-    out.put_number(reader.lists);
+    out.put_numbers(&[reader.position, reader.phase as usize, reader.lists]);
 }
 
 // The line of a next_item call.

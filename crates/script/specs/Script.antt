@@ -1,30 +1,36 @@
--- What the parts of a script are, and where they lie in it.
-use Rattle.std.specs.Prelude.{cond, ℕ, ◌≤◌, List, ◌∷◌, ◌++◌, length, eqb}
+-- What the parts of a script are, and where they lie in it: a part is read from the script's front, and the rest is left.
+use Rattle.std.specs.Prelude.{cond, ℕ, ◌≡◌, ◌≤◌, List, [], ◌∷◌, ◌++◌, length}
 use Rattle.std.specs.Borrow.{Bor}
-use Rattle.script.specs.Onward.{Onward}
+use Rattle.script.specs.Numbers.{number_meant, Number, Line, LetterLine, Each}
 use Rattle.script.specs.declared.TextCase.{TextCase}
 use Rattle.script.specs.declared.WriterCase.{WriterCase}
-use Rattle.script.specs.declared.Call.{Call}
+use Rattle.sise_serializer.specs.declared.calls.Call.{Call}
+use Rattle.script.specs.declared.tree.TreeCalls.{TreeCalls}
 
--- 999999999 stands for the largest number of 64 bits
-unfoldable pub number_meant : ℕ → ℕ
-number_meant n = cond (eqb n 999999999) 18446744073709551615 n
-
--- a text and the line end after it lie in the script, behind some of it, and the line's last number is no greater than the most
+-- ` N K F`, and the N bytes of a text and a line end; F is no greater than the most
 abbrev pub TextFrom : List ℕ → List ℕ → ℕ → TextCase → Type 0
-TextFrom script rest most case = Onward script (case.text.now ++ 10 ∷ rest) × (case.last ≤ most)
+TextFrom script rest most case = Line script (length case.text.now ∷ case.calls ∷ case.last ∷ []) (case.text.now ++ 10 ∷ rest) × (case.last ≤ most)
 
--- so do a line break and an indentation, for a buffer of 4096 bytes at most
+-- ` R B I K`, and the B bytes of a line break, the I bytes of an indentation and a line end; R is 4096 at most
 abbrev pub StyleFrom : List ℕ → List ℕ → WriterCase → Type 0
-StyleFrom script rest case = Onward script (case.line_break.now ++ case.indentation.now ++ 10 ∷ rest) × (case.room ≤ 4096)
+StyleFrom script rest case =
+    Line script (case.room ∷ length case.style.line_break.now ∷ length case.style.indentation.now ∷ case.calls ∷ [])
+    (case.style.line_break.now ++ case.style.indentation.now ++ 10 ∷ rest)
+    × (case.room ≤ 4096)
 
--- so does the atom of a call, and another call alone
+-- `A N T`, and the N bytes of an atom and a line end; `( T`; `) 0`; `F 1` or `F 0`
 abbrev pub CallFrom : List ℕ → List ℕ → Call → Type 0
-CallFrom script rest (Call.PutAtom atom n) = Onward script (atom.now ++ 10 ∷ rest)
-CallFrom script rest (Call.BeginList n) = Onward script rest
-CallFrom script rest Call.EndList = Onward script rest
-CallFrom script rest (Call.Finish b) = Onward script rest
+CallFrom script rest (Call.PutAtom atom t) = (n : ℕ) × (t ≡ number_meant n) × LetterLine 65 script (length atom.now ∷ n ∷ []) (atom.now ++ 10 ∷ rest)
+CallFrom script rest (Call.BeginList t) = (n : ℕ) × (t ≡ number_meant n) × LetterLine 40 script (n ∷ []) rest
+CallFrom script rest Call.EndList = LetterLine 41 script (0 ∷ []) rest
+CallFrom script rest (Call.Finish b) = LetterLine 70 script (cond b 1 0 ∷ []) rest
 
--- a list of numbers, the most at most, was read with its line end
+-- `P Q T O J`
+abbrev pub TreeFrom : List ℕ → List ℕ → TreeCalls → Type 0
+TreeFrom script rest calls =
+    (n : ℕ) × (calls.break_line_at ≡ number_meant n) × LetterLine 80 script (calls.lists ∷ n ∷ calls.first ∷ calls.paths ∷ []) rest
+
+-- how many numbers there are, the most at most, and the numbers, a space after each, and a line end
 abbrev pub NumbersFrom : List ℕ → List ℕ → ℕ → Bor (List ℕ) → Type 0
-NumbersFrom script rest most numbers = Onward script rest × (length numbers.now ≤ most)
+NumbersFrom script rest most numbers =
+    (t : List ℕ) × Number 32 script (length numbers.now) t × Each t numbers.now (10 ∷ rest) × (length numbers.now ≤ most)

@@ -3,14 +3,16 @@
 
 mod tree;
 
-ghost use Rattle.std.specs.Prelude.{◌≡◌, [], ◌∷◌, ◌++◌, ◌<◌, MatchOption, IfOk, IfSome, OnOk};
-ghost use Rattle.script.specs.Onward.{Onward};
-ghost use Rattle.script.specs.Script.{number_meant, TextFrom, StyleFrom, CallFrom};
+ghost use Rattle.std.specs.Prelude.{◌≡◌, [], ◌∷◌, ◌++◌, length, MatchOption, IfOk, OnOk};
+ghost use Rattle.script.specs.Numbers.{number_meant, Number, Field};
+ghost use Rattle.script.specs.Script.{TextFrom, StyleFrom, CallFrom};
 
+use sise_serializer::{Call, SerializerStyle};
 use std::marker::Model;
 pub use tree::TreeCalls;
 
-// The number that stands for the largest of 64 bits.
+// The number that stands for the largest of 64 bits. It is a number, and what begins a part is a letter, and no enum stands for either: a script is a
+// file's bytes, each letter is read at one place and matched there, and an enum would be a second table of the same letters.
 const LARGEST: usize = 999999999;
 
 // The next part of the script is not what was to be read.
@@ -25,26 +27,16 @@ pub struct TextCase<'a> {
     pub last: usize,
 }
 
-// The fields of a writer's line: the buffer's length, the line break, the indentation, and the number of calls.
+// The fields of a writer's line: the buffer's length, the style, and the number of calls.
 #[derive(Clone, Copy)]
 pub struct WriterCase<'a> {
     pub room: usize,
-    pub line_break: &'a [u8],
-    pub indentation: &'a [u8],
+    pub style: SerializerStyle<'a>,
     pub calls: usize,
 }
 
-// A writer's call.
-#[derive(Clone, Copy)]
-pub enum Call<'a> {
-    PutAtom { atom: &'a [u8], break_line_at: u64 },
-    BeginList { break_line_at: u64 },
-    EndList,
-    Finish { line_break: bool },
-}
-
 // The number of 64 bits that a number of the script stands for.
-#[tactic(auto, unfolding(crate::specs::Script::number_meant))]
+#[tactic(auto, unfolding(crate::specs::Numbers::number_meant))]
 pub fn meant(number: usize) -> u64
     ensures { result ≡ number_meant number }
 {
@@ -52,15 +44,6 @@ pub fn meant(number: usize) -> u64
         u64::MAX
     } else {
         number as u64
-    }
-}
-
-fn digit_value(byte: u8) -> Option<usize>
-    ensures { IfSome result (λ digit. digit < 10) }
-{
-    match byte {
-        b'0'..=b'9' => Some((byte - b'0') as usize),
-        _ => None,
     }
 }
 
@@ -106,7 +89,8 @@ impl<'a> Script<'a> {
     }
 
     fn read_bytes(&mut self, len: usize) -> Result<&'a [u8], Malformed>
-        ensures { IfOk result (λ bytes. self.old ≡ bytes.now ++ self.new) }
+        ensures len { IfOk result (λ bytes. length bytes.now ≡ len) }
+        ensures front { IfOk result (λ bytes. self.old ≡ bytes.now ++ self.new) }
     {
         let (bytes, rest) = self.rest.split_at_checked(len).ok_or(Malformed)?;
         self.rest = rest;
@@ -115,7 +99,8 @@ impl<'a> Script<'a> {
 
     // So many bytes, and the line end after them.
     fn read_text(&mut self, len: usize) -> Result<&'a [u8], Malformed>
-        ensures { IfOk result (λ text. self.old ≡ text.now ++ 10 ∷ self.new) }
+        ensures len { IfOk result (λ text. length text.now ≡ len) }
+        ensures front { IfOk result (λ text. self.old ≡ text.now ++ 10 ∷ self.new) }
     {
         let text = self.read_bytes(len)?;
         self.read_byte(b'\n')?;
@@ -124,7 +109,7 @@ impl<'a> Script<'a> {
 
     // The number that ends before the byte `end`. One of 1,000,000,000 or more is malformed, so that no sum wraps.
     pub fn read_number(&mut self, end: u8) -> Result<usize, Malformed>
-        ensures { OnOk result (Onward self.old self.new) }
+        ensures { IfOk result (λ n. Number end self.old n self.new) }
     {
         let mut value = 0;
         for (at, &byte) in self.rest.iter().enumerate() {
@@ -132,18 +117,18 @@ impl<'a> Script<'a> {
                 self.rest = &self.rest[at + 1..];
                 return Ok(value);
             }
-            let digit = digit_value(byte).ok_or(Malformed)?;
+            let digit = (byte as char).to_digit(10).ok_or(Malformed)?;
             if 99999999 < value {
                 return Err(Malformed);
             }
-            value = value * 10 + digit;
+            value = value * 10 + digit as usize;
         }
         Err(Malformed)
     }
 
     // A space and a number after it.
     pub fn read_field(&mut self, end: u8) -> Result<usize, Malformed>
-        ensures { OnOk result (Onward self.old self.new) }
+        ensures { IfOk result (λ n. Field end self.old n self.new) }
     {
         self.read_byte(b' ')?;
         self.read_number(end)
@@ -178,15 +163,17 @@ impl<'a> Script<'a> {
         let indentation = self.read_text(indentation_len)?;
         Ok(WriterCase {
             room,
-            line_break,
-            indentation,
+            style: SerializerStyle {
+                line_break,
+                indentation,
+            },
             calls,
         })
     }
 
     // A put_atom whose letter was read.
     fn read_atom_call(&mut self) -> Result<Call<'a>, Malformed>
-        ensures { IfOk result (CallFrom self.old self.new) }
+        ensures { IfOk result (CallFrom (65 ∷ self.old) self.new) }
     {
         let len = self.read_field(b' ')?;
         let number = self.read_number(b'\n')?;
@@ -212,8 +199,11 @@ impl<'a> Script<'a> {
                 break_line_at: meant(number),
             }),
             (b')', 0) => Ok(Call::EndList),
-            (b'F', 0 | 1) => Ok(Call::Finish {
-                line_break: number == 1,
+            (b'F', 0) => Ok(Call::Finish {
+                insert_line_break: false,
+            }),
+            (b'F', 1) => Ok(Call::Finish {
+                insert_line_break: true,
             }),
             _ => Err(Malformed),
         }

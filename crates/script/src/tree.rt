@@ -1,7 +1,6 @@
 // The parts of a script that trees alone have.
-ghost use Rattle.std.specs.Prelude.{◌≤◌, length, IfOk, OnOk};
-ghost use Rattle.script.specs.Onward.{Onward};
-ghost use Rattle.script.specs.Script.{NumbersFrom};
+ghost use Rattle.std.specs.Prelude.{length, IfOk};
+ghost use Rattle.script.specs.Script.{TreeFrom, NumbersFrom};
 
 use crate::{Malformed, Script, meant};
 
@@ -18,7 +17,7 @@ pub struct TreeCalls {
 impl Script<'_> {
     // The tree's line.
     pub fn read_tree_line(&mut self) -> Result<TreeCalls, Malformed>
-        ensures { OnOk result (Onward self.old self.new) }
+        ensures { IfOk result (TreeFrom self.old self.new) }
     {
         self.read_byte(b'P')?;
         let lists = self.read_field(b' ')?;

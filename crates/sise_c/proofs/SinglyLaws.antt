@@ -154,12 +154,12 @@ finish_kind a true e = rw e refl
 finish_kind a false e = rw e refl
 
 pub call_made : (c : Call) (s : Style) (ws buf : List ℕ) {w r : Serializer} {answers words bytes : List ℕ} {told : Result (List ℕ) Numbered} → Some w ≡ serializer_of ws → Made c s w buf r answers bytes
-    → Tells (word_answer (get_or answers 0 0)) told → words ≡ serializer_words r → Makes (call_on c s ws buf) told words bytes
+    → Tells (λ (e : Numbered). e.0) (word_answer (get_or answers 0 0)) told → words ≡ serializer_words r → Makes (call_on c s ws buf) told words bytes
 unfolding call_by call_on
 call_made c s ws buf {w = w} {told = told} e p t z =
     let a = (step s (length buf) w c).answer in
     let g = ap (λ (l : List ℕ). word_answer (get_or l 0 0)) p.answers ∙ word_answer_lem a (small s (length buf) w c) in
-    rw (← e) (record { answer = subst (λ (x : Answer). Tells x told) g t; words = z ∙ ap serializer_words p.serializer; bytes = p.buffer })
+    rw (← e) (record { answer = subst (λ (x : Answer). Tells (λ (e : Numbered). e.0) x told) g t; words = z ∙ ap serializer_words p.serializer; bytes = p.buffer })
 
 -- ---- a refused call leaves the words and the buffer: the record that it hands back is the one that it was given, and it has no bytes
 

@@ -7,7 +7,6 @@ use Rattle.sise_tree.specs.Answers.{Answer, answered, refused, number_of}
 use Rattle.sise_tree.specs.FindPath.{Lookup, found_number, found_values}
 use Rattle.sise_tree_writer.specs.SerializeTree.{Writes}
 use Rattle.sise_tree_writer.specs.Sizes.{Enquiry, adds, refuses, number_in, enquiry, commit_text}
-use Rattle.sise_c.specs.declared.report.Numbered.{Numbered}
 
 -- 17: "`check_atom` says no"
 abbrev pub checked : Bool → ℕ
@@ -27,9 +26,9 @@ pub record Reports (a : Answer) (r : ℕ) (now : List ℕ) : Type 0 where
   pub result : r ≡ number_of a
   pub values : now ≡ values_of a
 
--- a result is reported as the answer a is
-abbrev pub Tells : Answer → Result (List ℕ) Numbered → Type 0
-Tells a r = MatchResult r (λ told. Reports a 0 told) (λ e. Reports a e.0 (0 ∷ 0 ∷ []))
+-- a result, whose refusals have these numbers and no place, is reported as the answer a is
+abbrev pub Tells : {E : Type 0} → (E → ℕ) → Answer → Result (List ℕ) E → Type 0
+Tells number a r = MatchResult r (λ told. Reports a 0 told) (λ e. Reports a (number e) (0 ∷ 0 ∷ []))
 
 -- the same of a lookup that also answers the number of nodes looked at
 pub record ReportsFound (a : Lookup) (r : ℕ) (now : List ℕ) : Type 0 where

@@ -91,6 +91,6 @@ call_on c s ws buf = call_by c s ws buf (serializer_of ws)
 
 -- a call that leaves d: its result, and how the record's words and the buffer end
 pub record Makes (d : Leaves) (r : Result (List ℕ) Numbered) (ws buf : List ℕ) : Type 0 where
-  pub answer : Tells d.answer r
+  pub answer : Tells (λ (e : Numbered). e.0) d.answer r
   pub words : ws ≡ d.words
   pub bytes : buf ≡ d.buffer

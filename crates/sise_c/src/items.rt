@@ -7,7 +7,7 @@ ghost use Rattle.sise_tree.specs.Answers.{parsed_as};
 ghost use Rattle.sise_serializer.specs.Bytes.{pasted};
 ghost use Rattle.sise_c.specs.Items.{ending_by, items_of, ending_of, item_words, all_words, read_items};
 
-use sise_parser::{ParseError, ParsedItem, Reader, plain_item};
+use sise_parser::{ParseError, ParsedItem, Reader};
 use sise_tree::TreeError;
 
 // What the refusal that follows the items says: that they are all read, and then finish looks at the rest of the text, or why no more can be.
@@ -18,30 +18,6 @@ fn ending_by(text: &[u8], reader: Reader, error: ParseError) -> Result<(), Parse
         return reader.finish(text);
     }
     Err(error)
-}
-
-// Reads the items one after the other, and counts them. Plain ones are passed in the loop itself: by next_item alone the words of a text's items take twice
-// the time, more than the crate takes for its items.
-pub(crate) fn count_items(text: &[u8]) -> Result<usize, ParseError>
-    ensures { MatchResult result (λ n. (n ≡ length (items_of text.now)) × (ending_of text.now ≡ ended)) (λ e. ending_of text.now ≡ not_ended (refusal_of e)) }
-{
-    let mut reader = Reader::new();
-    let mut items = 0;
-    loop {
-        if let Some(plain) = plain_item(text, reader) {
-            items += 1;
-            reader = plain.reader;
-            continue;
-        }
-        let next = reader.next_item(text);
-        match next.answer {
-            Ok(_) => {
-                items += 1;
-                reader = next.reader;
-            }
-            Err(error) => return ending_by(text, reader, error).and(Ok(items)),
-        }
-    }
 }
 
 // An item's words: its kind, its place, of an atom its length, and 0.
@@ -55,11 +31,13 @@ pub(crate) fn item_words(item: ParsedItem) -> [u64; 4]
     }
 }
 
-// They are written, where it is the one after so many: one by one, since a copy of the four together takes 3 ns more an item.
+// They are written behind those of so many items, if there is room: one by one, since a copy of the four together takes 3 ns more an item.
 fn put_item(words: &mut [u64], items: usize, item: ParsedItem)
-    requires { 4 * (items + 1) ≤ length words.old }
-    ensures { words.new ≡ pasted words.old (4 * items) (item_words item) }
+    ensures { 4 * (items + 1) ≤ length words.old → words.new ≡ pasted words.old (4 * items) (item_words item) }
 {
+    if items >= words.len() / 4 {
+        return;
+    }
     let at = 4 * items;
     let [kind, place, len, last] = item_words(item);
     words[at] = kind;
@@ -68,27 +46,24 @@ fn put_item(words: &mut [u64], items: usize, item: ParsedItem)
     words[at + 3] = last;
 }
 
-// Reads the items again, for which there is room, and writes their words.
-pub(crate) fn fill_items(text: &[u8], words: &mut [u64])
-    requires { 4 * length (items_of text.now) ≤ length words.old }
-    ensures { words.new ≡ pasted words.old 0 (all_words (items_of text.now)) }
+// Reads the items one after the other and answers how many there are. The words of those that have room are written: to count alone, none is lent. The loop
+// asks for items until one is refused, with the record from turn to turn; there is no sequence to go over.
+fn pass_items(text: &[u8], words: &mut [u64]) -> Result<usize, ParseError>
+    ensures counted { MatchResult result (λ n. (n ≡ length (items_of text.now)) × (ending_of text.now ≡ ended)) (λ e. ending_of text.now ≡ not_ended (refusal_of e)) }
+    ensures filled { 4 * length (items_of text.now) ≤ length words.old → words.new ≡ pasted words.old 0 (all_words (items_of text.now)) }
 {
     let mut reader = Reader::new();
     let mut items = 0;
     loop {
-        if let Some(plain) = plain_item(text, reader) {
-            put_item(words, items, plain.item);
-            items += 1;
-            reader = plain.reader;
-            continue;
-        }
         let next = reader.next_item(text);
-        let Ok(item) = next.answer else {
-            return;
-        };
-        put_item(words, items, item);
-        items += 1;
-        reader = next.reader;
+        match next.answer {
+            Ok(item) => {
+                put_item(words, items, item);
+                items += 1;
+                reader = next.reader;
+            }
+            Err(error) => return ending_by(text, reader, error).and(Ok(items)),
+        }
     }
 }
 
@@ -98,10 +73,9 @@ pub(crate) fn read_items(text: &[u8], words: &mut [u64]) -> Result<usize, TreeEr
     ensures answer { parsed_as result ≡ (read_items text.now words.old).answer }
     ensures words { words.new ≡ (read_items text.now words.old).words }
 {
-    let items = count_items(text)?;
+    let items = pass_items(text, &mut [])?;
     if items > words.len() / 4 {
         return Err(TreeError::TableFull);
     }
-    fill_items(text, words);
-    Ok(items)
+    Ok(pass_items(text, words)?)
 }

@@ -1,6 +1,6 @@
 // Calls for programs in C and Rust, over numbers and slices alone: include/sise.h declares them and says what a caller owes. Each does a whole job on
 // memory that is lent to it. The result is 0 or document 01's number of the refusal; `values` are what is answered and 0, or the refusal's place and
-// code point. On a refusal nothing else is written.
+// code point. On a refusal nothing else is written. Answers are numbers and words, and a style is two slices, since C hands them over and reads them so.
 #![tactic(auto)]
 
 mod items;
@@ -22,7 +22,7 @@ ghost use Rattle.sise_c.specs.Items.{read_items};
 use items::read_items;
 pub use reading::{sise_finish_reading, sise_next_item};
 use report::{
-    CallCount, Size, Values, found_words, measured, number_words, report, size_given, written,
+    CallCount, Size, Values, found_words, number_words, report, size_given, size_words, written,
 };
 use sise_serializer::{SerializerStyle, write_calls};
 use sise_tree::{TreeTable, parse_text};
@@ -112,7 +112,7 @@ pub fn sise_measure_tree(
     };
     let tree = TreeTable { table, text };
     let answer = measure_text(style, buf_len, tree, break_line_at, final_break);
-    report(measured(answer), size)
+    report(answer.map(size_words), size)
 }
 
 // Then the text: writes it as sise_serialize_tree does, if the size is still what sise_measure_tree answers with a buffer of this length, and else refuses with

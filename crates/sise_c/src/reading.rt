@@ -10,13 +10,14 @@ use crate::items::item_words;
 use crate::report::{Values, report};
 use sise_parser::{ParseError, ParsedItem, Phase, Reader};
 
-// A reader's record in words.
+// A reader's record in words: C keeps it between the calls, and include/sise.h has it as an array.
 pub type ReaderWords = [u64; 3];
 
 // An item in words: kind, place, and of an atom its length.
 pub type ItemWords = [u64; 3];
 
-// Words mean a record if the second is a phase.
+// Words mean a record if the second is a phase. A function and no TryFrom, and reader_words no From: neither the record nor an array of words is a type of this
+// crate, so no impl of the two can stand here.
 #[tactic(auto, using(crate::proofs::RecordLaws::no_reader_phase), unfolding(crate::specs::Records::reader_of))]
 fn reader_of(words: &ReaderWords) -> Option<Reader>
     ensures { result ≡ reader_of words.now }

@@ -3,7 +3,7 @@ ghost use Rattle.std.specs.Prelude.{◌≡◌, ◌≤◌, [], ◌∷◌, Ok, Mat
 ghost use Rattle.sise_parser.specs.Refusals.{refusal};
 ghost use Rattle.sise_tree_writer.specs.Answers.{put_as, error_number};
 ghost use Rattle.sise_tree_writer.specs.Sizes.{measured_as};
-ghost use Rattle.sise_c.specs.Reports.{refusal_words, Tells, size_or, ReportsEnquiry, size_given};
+ghost use Rattle.sise_c.specs.Reports.{refusal_words, Tells, size_or, size_given};
 
 use sise_parser::Refusal;
 use sise_tree::Found;
@@ -46,13 +46,20 @@ pub(crate) fn number_words(number: usize) -> Values
     [number as u64, 0]
 }
 
+pub(crate) fn size_words(size: TreeSize) -> Size
+    ensures { result ≡ size.bytes ∷ size.breaks ∷ size.indents ∷ [] }
+{
+    [size.bytes as u64, size.breaks as u64, size.indents as u64]
+}
+
 pub(crate) fn found_words(found: Found) -> Values
     ensures { result ≡ found.index ∷ found.seen ∷ [] }
 {
     [found.index as u64, found.seen as u64]
 }
 
-// A refusal that has no place, by its number.
+// A refusal of a single call, by its number. It stays a number: make_call reads it back from the word in which a list of calls answers, and no clause of that
+// says which refusals there are; an error of the writer would be made by a second table of the numbers.
 #[derive(Clone, Copy, Debug, PartialEq, Eq)]
 pub(crate) struct Numbered(pub(crate) u32);
 
@@ -72,27 +79,12 @@ impl Refusal for Numbered {
     }
 }
 
-impl From<WriteTreeError> for Numbered {
-    ghost from_gives = { λ error e. e.0 ≡ error_number error };
-
-    fn from(error: WriteTreeError) -> Numbered {
-        Numbered(error.number())
-    }
-}
-
 // A tree that is written tells how far from the buffer's start the text goes.
-pub(crate) fn written(wrote: TreeWrote) -> Result<Values, Numbered>
-    ensures { Tells (size_or wrote.serializer.position (put_as wrote.answer)) result }
+pub(crate) fn written(wrote: TreeWrote) -> Result<Values, WriteTreeError>
+    ensures { Tells (λ e. error_number e) (size_or wrote.serializer.position (put_as wrote.answer)) result }
 {
     wrote.answer?;
     Ok(number_words(wrote.serializer.position))
-}
-
-pub(crate) fn measured(answer: Result<TreeSize, WriteTreeError>) -> Result<Size, Numbered>
-    ensures { MatchResult result (ReportsEnquiry (measured_as answer) 0) (λ e. ReportsEnquiry (measured_as answer) e.0 (0 ∷ 0 ∷ 0 ∷ [])) }
-{
-    let size = answer?;
-    Ok([size.bytes as u64, size.breaks as u64, size.indents as u64])
 }
 
 // The size that three words hand over.

@@ -11,7 +11,7 @@ ghost use Rattle.sise_c.specs.Singly.{word_answer, call_on, Makes};
 use crate::report::{Numbered, Values, report};
 use sise_serializer::{Phase, Serializer, SerializerStyle, write_calls_from};
 
-// A writer's record in words.
+// A writer's record in words: C keeps it between the calls, and include/sise.h has it as an array.
 pub type WriterWords = [u64; 9];
 
 // A call is made as a list of that call alone, by write_calls_from: a second caller of the writer's steps would take them out of the loop of a whole list, and
@@ -28,7 +28,8 @@ fn flag_of(word: u64) -> Option<bool>
     }
 }
 
-// Words mean a record if the second is a phase and the fifth a flag.
+// Words mean a record if the second is a phase and the fifth a flag. A function, and so is writer_words, as in reading.rt: no impl of the two types can stand
+// here.
 #[tactic(auto, using(crate::proofs::RecordLaws::no_writer_phase), unfolding(crate::specs::Records::serializer_of))]
 fn writer_of(words: &WriterWords) -> Option<Serializer>
     ensures { result ≡ serializer_of words.now }
@@ -68,7 +69,7 @@ fn writer_words(w: Serializer) -> WriterWords
 // What an answer's word tells, as the writer's lists of calls have it: the offset, or 2 ^ 32 and the refusal's number.
 fn told(word: u64) -> Result<Values, Numbered>
     requires { word < 2 ^ 33 }
-    ensures { Tells (word_answer word) result }
+    ensures { Tells (λ e. e.0) (word_answer word) result }
 {
     if word < 4294967296 {
         return Ok([word, 0]);

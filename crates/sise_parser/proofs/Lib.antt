@@ -10,3 +10,4 @@ pub mod Parts
 pub mod Readings
 pub mod TokenLaws
 pub mod RefusedLaws
+pub mod Runs

@@ -1,6 +1,6 @@
 -- The reader's refusals by document 01's numbers ("Refusals").
 -- Assumes nothing.
-use Rattle.std.specs.Prelude.{ℕ}
+use Rattle.std.specs.Prelude.{ℕ, Result, Ok, Err}
 use Rattle.sise_parser.specs.declared.error.ParseError.{ParseError}
 use Rattle.sise_parser.specs.declared.error.ParseError.TheVariants.{IllegalChr, IllegalChrInString, IllegalChrInComment, UnfinishedString, UnexpectedEof, UnexpectedRightParen, ExpectedEof, IllFormedChr, ParsingFinished, ParsingNotFinished, UnsoundRecord}
 
@@ -26,3 +26,8 @@ refusal_of (IllFormedChr p) = refusal 8 p 0
 refusal_of ParsingFinished = refusal 9 0 0
 refusal_of ParsingNotFinished = refusal 10 0 0
 refusal_of UnsoundRecord = refusal 11 0 0
+
+-- the number of an answer's refusal, 0 for none; m says what each refusal means
+abbrev pub answer_number : {T E : Type 0} → (E → Refusal) → Result T E → ℕ
+answer_number m (Ok x) = 0
+answer_number m (Err e) = (m e).number

@@ -1,7 +1,7 @@
 // Why a call of the reader is refused. `pos` is a place, a byte offset in the text, and `chr` a code point. specs/Refusals.antt has document 01's
 // number of each.
 ghost use Rattle.std.specs.Prelude.{◌≡◌};
-ghost use Rattle.sise_parser.specs.Refusals.{Refusal, refusal_of};
+ghost use Rattle.sise_parser.specs.Refusals.{Refusal, refusal_of, answer_number};
 
 #[derive(Clone, Copy, Debug, PartialEq, Eq)]
 pub enum ParseError {
@@ -29,7 +29,8 @@ pub enum ParseError {
     UnsoundRecord,
 }
 
-// A refusal in numbers: document 01's number of it, and its place and code point, 0 where there is none.
+// A refusal in numbers: document 01's number of it, and its place and code point. Where there is none they are 0 and no Option: C reads them as words.
+// `place` and `code` have no default bodies: a default is proved once for all refusals, and 0 is not what each of them has.
 pub trait Refusal: Copy {
     ghost meaning: { Self → Refusal };
 
@@ -41,6 +42,16 @@ pub trait Refusal: Copy {
 
     fn code(self) -> u32
         ensures { result ≡ (meaning self).code };
+}
+
+// The number of an answer's refusal, 0 where the call was accepted.
+pub fn answer_number<T: Copy, E: Refusal>(answer: Result<T, E>) -> u32
+    ensures { result ≡ answer_number E.meaning answer }
+{
+    match answer {
+        Ok(_) => 0,
+        Err(error) => error.number(),
+    }
 }
 
 impl Refusal for ParseError {

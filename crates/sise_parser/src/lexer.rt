@@ -1,5 +1,6 @@
 // Tokens (parser.rs, `Lexer`). The table of classes is built anew at each use, so it serves where a run of bytes is long, in strings and comments; a
 // token's first byte and an atom's bytes are tested by cases and by a mask.
+// The functions take a text and a place in it, and not the rest from there on: what they answer are places in the text.
 ghost use Rattle.std.specs.Prelude.{◌≡◌, ◌≤◌, ◌<◌, eqb, length, drop, get_or};
 ghost use Rattle.sise_util.specs.Classes.{class_of, class_table};
 ghost use Rattle.sise_parser.specs.Refusals.{refusal, refusal_of};
@@ -35,7 +36,7 @@ impl From<Wrong> for ParseError {
     }
 }
 
-// A token, its place and the position after it.
+// A token, its place and the position after it. An atom's length stands in its token too, which is what an item has of it.
 #[derive(Clone, Copy, Debug, PartialEq, Eq)]
 pub struct Lexeme {
     pub token: Token,
@@ -96,8 +97,8 @@ fn unfinished_string(at: usize) -> Wrong
     }
 }
 
-// The rest of a string from `from` on, which is after its opening quote: the position after its closing one. The loop counts places by hand: an escape
-// passes two bytes, and an error wants the place.
+// The rest of a string from `from` on, which is after its opening quote: the position after its closing one.
+// The loop counts places by hand: an escape passes two bytes, and an error names its place.
 fn lex_string(text: &[u8], from: usize) -> Result<usize, Wrong>
     requires { from ≤ length text.now }
     ensures { Ends text.now from result }
@@ -147,8 +148,8 @@ fn is_blank(byte: u8) -> bool
     }
 }
 
-// The first place from `from` on that holds no blank, or the end. The loop counts by hand, as atom_run's: a search of the rest's iterator, tried in both, has to
-// make that rest first, and a tree of short tokens took up to half as long again to read.
+// The first place from `from` on that holds no blank, or the end. The loop counts by hand, as atom_run's: a search of the rest's iterator, tried in both, has
+// to make that rest first, and a tree of short tokens took up to half as long again to read.
 pub fn skip_blanks(text: &[u8], from: usize) -> usize
     ensures same { result ≡ skip_blanks (drop from text.now) from }
     ensures after { from ≤ result }
@@ -161,7 +162,8 @@ pub fn skip_blanks(text: &[u8], from: usize) -> usize
     at
 }
 
-// The end of the run of atom characters that begins at `start`. It counts by hand too, for the same reason.
+// The end of the run of atom characters that begins at `start`. It counts by hand too, for the same reason. The two are not one function over a test: its
+// promise would be one of any test, and each caller needs the definition that is named here.
 pub fn atom_run(text: &[u8], start: usize) -> usize
     ensures same { result ≡ atom_run (drop start text.now) start }
     ensures after { start ≤ result }
@@ -181,37 +183,25 @@ pub fn is_quote_at(text: &[u8], at: usize) -> bool
     at < text.len() && text[at] == b'"'
 }
 
-// The atom that begins at `start`: it runs to the end of the text or to a byte outside strings that is no atom character and no quote. The loop counts
-// places by hand: a string is passed at once.
+// The atom that begins at `start`: it runs to the end of the text or to a byte outside strings that is no atom character and no quote.
+// The loop counts places by hand: each turn passes a string and the run behind it.
 fn lex_atom(text: &[u8], start: usize) -> Result<Lexeme, Wrong>
     requires { start ≤ length text.now }
     ensures { lexed_as result ≡ plain (drop start text.now) start start }
 {
-    let mut at = start;
-    loop {
-        if text.len() <= at {
-            return Ok(Lexeme {
-                token: Token::Atom(at - start),
-                start,
-                end: at,
-            });
-        }
-        let byte = text[at];
-        if is_atom_byte(byte) {
-            at += 1;
-        } else if byte == b'"' {
-            at = lex_string(text, at + 1)?;
-        } else {
-            return Ok(Lexeme {
-                token: Token::Atom(at - start),
-                start,
-                end: at,
-            });
-        }
+    let mut at = atom_run(text, start);
+    while is_quote_at(text, at) {
+        at = atom_run(text, lex_string(text, at + 1)?);
     }
+    Ok(Lexeme {
+        token: Token::Atom(at - start),
+        start,
+        end: at,
+    })
 }
 
 // The token at or after `from`: blanks and comments are skipped. The arms of blanks are two, since Rattle makes a range of neighbours.
+// Both loops count by hand: document 01 names the form, a token loop with a comment's loop inside that is left by its label.
 pub(crate) fn get_token(text: &[u8], from: usize) -> Result<Lexeme, Wrong>
     ensures { lexed_as result ≡ between (drop from text.now) from }
 {

@@ -16,11 +16,11 @@ pub enum Phase {
     Finishing,
 }
 
-// A number that no phase has.
+// A number that no phase has, of a reader or of a writer.
 #[derive(Clone, Copy, Debug, PartialEq, Eq)]
 pub struct UnknownPhase(pub u64);
 
-// The phase with a number: 0 beginning, 1 parsing, 2 finishing.
+// The phase with a number: 0 beginning, 1 parsing, 2 finishing. The writer's phases have an impl of the same shape and other names and numbers.
 impl TryFrom<u64> for Phase {
     type Error = UnknownPhase;
 
@@ -59,7 +59,7 @@ pub struct Next {
     pub answer: Result<ParsedItem, ParseError>,
 }
 
-// Whether so many lists may be open in a phase: one at least exactly while parsing.
+// Whether so many lists may be open in a phase: one at least exactly while parsing. The writer's is another function: its phases are other ones.
 fn lists_fit(phase: Phase, lists: usize) -> bool
     ensures { result ≡ lists_fit phase lists }
 {
@@ -187,7 +187,20 @@ impl Reader {
                 reader: plain.reader,
                 answer: Ok(plain.item),
             },
-            None => item_ahead(self.position, self.phase, self.lists, text),
+            None => self.ahead(text),
+        }
+    }
+
+    // What item_ahead hands back, moved out of the memory that it writes: a function of its own, since that memory is cleared where the function begins, and so
+    // behind the test for a plain item, and not at each turn of a loop over next_item. The record of such a loop stays in registers.
+    #[inline(always)]
+    fn ahead(self, text: &[u8]) -> Next
+        ensures { next_as result ≡ next_item text.now self }
+    {
+        let next = item_ahead(self.position, self.phase, self.lists, text);
+        Next {
+            reader: next.reader,
+            answer: next.answer,
         }
     }
 
@@ -221,6 +234,8 @@ pub fn atom_bytes(text: &[u8], place: usize, len: usize) -> &[u8]
 
 // The next item of the text for a record of these parts, which are handed over one by one since that is faster than a struct. Blanks are passed by a loop
 // of their own: in get_token each would go through the match on a token's first byte.
+// A loop over next_item seldom comes here: `#[cold]` says so to the compiler.
+#[cold]
 pub fn item_ahead(position: usize, phase: Phase, lists: usize, text: &[u8]) -> Next
     ensures { next_as result ≡ next_item text.now (reader position phase lists) }
 {

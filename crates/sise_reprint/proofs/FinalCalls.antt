@@ -10,7 +10,7 @@ use Rattle.std.specs.Prelude.{Result, Ok}
 use Rattle.sise_tree.specs.declared.parse.TreeError.{TreeError}
 use Rattle.sise_tree_writer.specs.Alike.{Tree, ReadsAs}
 use Rattle.sise_tree_writer.specs.declared.serialize.WriteTreeError.{WriteTreeError}
-use Rattle.sise_tree_writer.specs.declared.serialize.TreeWrote.{TreeWrote}
+use Rattle.sise_tree_writer.specs.Answers.{TreeWrote}
 use Rattle.sise_tree_writer.proofs.Lossless.{put_lossless}
 use Rattle.sise_reprint.specs.Equal.{Equal}
 use Rattle.sise_reprint.specs.Reprint.{Fits, Calls, text_by}

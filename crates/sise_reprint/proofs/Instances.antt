@@ -9,7 +9,7 @@ use lib.ListN.{length, get_or}
 use Rattle.sise_parser.specs.Examples.{worked_text}
 use Rattle.std.specs.Prelude.{Result, Ok}
 use Rattle.sise_tree.specs.declared.parse.TreeError.{TreeError}
-use Rattle.sise_tree_writer.specs.declared.serialize.TreeWrote.{TreeWrote}
+use Rattle.sise_tree_writer.specs.Answers.{TreeWrote}
 use Rattle.sise_reprint.specs.Equal.{Equal, atoms, lists, more}
 use Rattle.sise_reprint.specs.Reprint.{reprinted, reprint, Calls, text_by}
 use Rattle.sise_reprint.specs.Examples.{used, odd_text, other_text, broken, line, reprints, worked_tree, other_tree, worked_reads, odd_reads, other_reads, calls_made}

@@ -13,7 +13,7 @@ use Rattle.sise_tree.proofs.Lossless.{parsed_lossless}
 use Rattle.sise_tree_writer.specs.Answers.{put_as}
 use Rattle.sise_tree_writer.specs.SerializeTree.{Writes}
 use Rattle.sise_tree_writer.specs.House.{house_at}
-use Rattle.sise_tree_writer.specs.declared.serialize.TreeWrote.{TreeWrote}
+use Rattle.sise_tree_writer.specs.Answers.{TreeWrote}
 use Rattle.sise_tree_writer.proofs.Lossless.{put_lossless}
 use Rattle.sise_reprint.specs.Reprint.{reprinted, after_house, after_parse, reprint, Calls, text_by}
 use Rattle.sise_reprint.proofs.Parsed.{parses_to}

@@ -13,7 +13,7 @@ use Rattle.sise_tree_writer.specs.SerializeTree.{fits, Writes, DoesWrite}
 use Rattle.sise_tree_writer.specs.Writing.{text_calls}
 use Rattle.sise_tree_writer.specs.House.{house_style, house_at}
 use Rattle.sise_tree_writer.specs.Alike.{Tree, ReadsAs}
-use Rattle.sise_tree_writer.specs.declared.serialize.TreeWrote.{TreeWrote}
+use Rattle.sise_tree_writer.specs.Answers.{TreeWrote}
 
 -- what it comes to: the number of nodes that parse_text answered and the bytes that the house call wrote, or the refusal of the first call that was refused
 pub data Reprint : Type 0 where

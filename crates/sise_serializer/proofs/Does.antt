@@ -1,70 +1,30 @@
--- From what the code knows at a return to the promise of its contract: for refusals, for pieces with and without room, and for each call.
+-- From what the code knows at a return to the promise of its contract: for refusals, for items by their gap, and for each call.
 -- Assumes nothing.
-use Prim.Native.Nat.{ℕ, ◌+◌, ◌≤◌, ◌<◌}
+use Prim.Native.Nat.{ℕ, ◌≤◌, ◌<◌}
 use native.Mathlib.Nat.{add-zero}
-use native.Mathlib.Omega.{arith}
-use Rattle.std.specs.Prelude.{Result, Ok, Err}
-use Rattle.std.specs.Result.{IsErrAnd}
-use Rattle.std.proofs.lemmas.Result.{err_from_is_err_and}
+use Rattle.std.specs.Prelude.{Err}
 use mathlib.Core.Path.{◌≡◌, refl, sym, ap, ◌∙◌}
 use mathlib.Core.Bool.{Bool, true, false}
 use mathlib.Core.Logic.{◌⊎◌, ⊎_elim}
-use mathlib.Core.List.{List, [], ◌∷◌, ◌++◌}
-use lib.ListN.{length}
+use mathlib.Core.List.{List, [], ◌∷◌}
 use borrow.Author.Tests.{lt-ltb, le-ltb, eq-eqb, ne_eqb}
 use Rattle.sise_util.specs.Atom.{is_atom}
 use Rattle.sise_util.proofs.Ranges.{split}
-use Rattle.sise_serializer.specs.Bytes.{pasted}
-use Rattle.sise_serializer.specs.Serializer.{Answer, refused, error_number, DoesAs, is_sound, Style, Piece, refuse, place, first_atom, first_list, Gap, new_line, nothing, space, gap_at, laid, inner, inner_as, close, close_as, put_in, put_atom, begin_in, begin_list, end_in, end_list, finish_in, finish_writing}
+use Rattle.sise_serializer.specs.Serializer.{refused, error_number, DoesAs, is_sound, Style, refuse, place, first_atom, first_list, Gap, new_line, nothing, space, gap_at, laid, inner, inner_as, close, close_as, put_in, put_atom, begin_in, begin_list, end_in, end_list, finish_in, finish_writing}
 use Rattle.sise_serializer.specs.Calls.{Call, put_atom_call, begin_list_call, end_list_call, finish_call, step}
-use Rattle.sise_serializer.specs.Parts.{wrote_of, Places, spot_or_full, first_item, item_in, in_line, gap_bytes}
+use Rattle.sise_serializer.specs.Parts.{wrote_of, first_item, item_in, in_line, gap_bytes}
 use Rattle.sise_serializer.specs.declared.serializer.Phase.{Phase}
 use Rattle.sise_serializer.specs.declared.serializer.Phase.TheVariants.{Beginning, Writing, Finished, Done}
-use Rattle.sise_serializer.specs.declared.serializer.Placed.{Placed}
 use Rattle.sise_serializer.specs.declared.serializer.Serializer.{Serializer}
-use Rattle.sise_serializer.specs.declared.buffer.Spot.{Spot}
 use Rattle.sise_serializer.specs.declared.serializer.WriteError.{WriteError}
-use Rattle.sise_serializer.proofs.Bytes.{pasted_none, pasted_behind}
-use Rattle.sise_serializer.proofs.Spots.{Found, found_ok, not_found_err}
+use Rattle.sise_serializer.proofs.Bytes.{pasted_none}
 
--- ---- refusals and pieces
+-- ---- refusals
 
 module _ (w : Serializer) (before : List ℕ) where
   -- a refusal changes nothing
   pub refused_does : (n : ℕ) {e : WriteError} → error_number e ≡ n → DoesAs (refuse n w) w before (wrote_of w (Err e)) before
   refused_does n e = record { serializer = refl; answer = ap refused e; buffer = sym (pasted_none before w.position) }
-
-  module _ (b : Piece) {r : Result Spot WriteError} (h : r ≡ spot_or_full (length before) w.position (length b.layout) (length b.token)) where
-    -- the spot of a piece with room
-    pub spotted : {s : Spot} → r ≡ Ok s → Found (length before) w.position (length b.layout) (length b.token) s
-    spotted t = found_ok (length before) w.position (length b.layout) (length b.token) (sym h ∙ t)
-
-    -- a piece with room
-    pub placed : {s : Spot} {v : Serializer} {now : List ℕ} → r ≡ Ok s
-        → (s.end ≡ w.position + length b.layout + length b.token → v ≡ b.after)
-        → now ≡ pasted before w.position (b.layout ++ b.token)
-        → Places b w before (Ok (record { serializer = v; offset = s.at })) now
-    unfolding place
-    placed t q n =
-        let f = spotted t in
-        rw f.test (record { serializer = q f.end; answer = ap Answer.accepted f.offset; buffer = n })
-
-    -- the same, where the token was written after the layout
-    pub placed_behind : {s : Spot} {v : Serializer} {mid now : List ℕ} → r ≡ Ok s → mid ≡ pasted before w.position b.layout → now ≡ pasted mid s.at b.token
-        → (s.end ≡ w.position + length b.layout + length b.token → v ≡ b.after)
-        → Places b w before (Ok (record { serializer = v; offset = s.at })) now
-    placed_behind t m n q =
-        let f = spotted t in
-        placed t q (pasted_behind before w.position b.layout b.token m f.offset n (omega (arith, f.in_room)))
-
-    -- a piece without room
-    pub full : {e : WriteError} (x : Result Placed WriteError) → r ≡ Err e → IsErrAnd x (λ d. d ≡ e) → Places b w before x before
-    unfolding place
-    full x t q =
-        let n = not_found_err (length before) w.position (length b.layout) (length b.token) (sym h ∙ t) in
-        let p = err_from_is_err_and x q in
-        rw (n.0, p.1, p.2, ← n.1)
-        (refused_does 22 refl)
 
 -- ---- an item in a list
 

@@ -5,35 +5,24 @@ use Prim.Native.Nat.{ℕ, suc, ◌+◌, ◌-◌, ◌≤◌, ◌<◌}
 use native.Mathlib.Nat.{add-zero, zero-add}
 use native.Mathlib.Omega.{arith}
 use mathlib.Core.Path.{◌≡◌, refl, sym, ap, ◌∙◌, subst}
-use mathlib.Core.Bool.{Bool, true, false, ◌&&◌, cond}
+use mathlib.Core.Bool.{Bool, true, false, cond}
 use mathlib.Core.List.{List, [], ◌∷◌, ◌++◌, map}
 use lib.Dec.{leb}
-use lib.ListN.{length, get_or, take, drop, set, length-drop, length-set}
-use lib.Seq.{take-nil, drop-cons, take-suc-set, drop-set-lt, append_snoc}
-use borrow.Author.Tests.{leb-true, leb-false, le-leb, lt-leb, ne_eqb}
-use Rattle.sise_util.proofs.Ranges.{and_first, and_second}
+use Rattle.std.specs.List.{IsSplitAt}
+use lib.ListN.{length, get_or, take, drop, set, length-set}
+use lib.Seq.{take-nil, take-suc-set, drop-set-lt, append_snoc}
 use Rattle.sise_serializer.specs.Bytes.{pasted}
 use Rattle.sise_serializer.specs.Serializer.{Style, fresh_serializer, is_sound}
 use Rattle.sise_serializer.specs.declared.calls.Ran.{Ran}
 use Rattle.sise_serializer.specs.declared.serializer.Serializer.{Serializer}
 use Rattle.sise_serializer.proofs.Bytes.{pasted_none}
 use Rattle.sise_serializer.proofs.Kept.{fresh_sound, sound_kept}
-use Rattle.sise_serializer.specs.Calls.{Call, finish_call, step, Run, run}
-use Rattle.sise_serializer.specs.Words.{call_of, call_at, has_call, decoded, calls_of, calls_from, answer_word, Runs, RunsFrom}
-
--- ---- the call of a kind
-
-module _ (words atoms : List ℕ) (at : ℕ) where
-  pub call_kind : {kind : ℕ} → get_or words at 0 ≡ kind → call_at words atoms at ≡ call_of atoms kind (get_or words (at + 1) 0) (get_or words (at + 2) 0) (get_or words (at + 3) 0)
-  call_kind e = ap (λ (kind : ℕ). call_of atoms kind (get_or words (at + 1) 0) (get_or words (at + 2) 0) (get_or words (at + 3) 0)) e
-
-  pub call_last : (get_or words at 0 ≡ 0 → ⊥) → (get_or words at 0 ≡ 1 → ⊥) → (get_or words at 0 ≡ 2 → ⊥) → (get_or words at 0 ≡ 3 → ⊥) → call_at words atoms at ≡ finish_call true
-  unfolding call_of
-  call_last a b c d = rw (ne_eqb _ _ a, ne_eqb _ _ b, ne_eqb _ _ c, ne_eqb _ _ d)
+use Rattle.sise_serializer.specs.Calls.{Call, step, Run, run}
+use Rattle.sise_serializer.specs.Words.{call_of, decoded, calls_of, calls_from, answer_word, Runs, RunsFrom}
 
 -- ---- words
 
-decoded_short : (l atoms : List ℕ) → length l < 4 → decoded l atoms ≡ []
+pub decoded_short : (l atoms : List ℕ) → length l < 4 → decoded l atoms ≡ []
 unfolding decoded
 decoded_short [] atoms h = refl
 decoded_short (a ∷ []) atoms h = refl
@@ -41,51 +30,19 @@ decoded_short (a ∷ b ∷ []) atoms h = refl
 decoded_short (a ∷ b ∷ c ∷ []) atoms h = refl
 decoded_short (a ∷ b ∷ c ∷ d ∷ l) atoms h = absurd (omega arith)
 
-next : (l : List ℕ) (i j : ℕ) → j ≡ i + 1 → i < length l → drop i l ≡ get_or l i 0 ∷ drop j l
-next l i j e h = let z : suc i ≡ j = omega arith in drop-cons l i 0 h ∙ ap (λ (n : ℕ). get_or l i 0 ∷ drop n l) z
-
-and_false : {A : Type 0} (x y : Bool) → (x && y) ≡ false → (x ≡ false → A) → (x ≡ true → y ≡ false → A) → A
-and_false true y h f g = g refl h
-and_false false y h f g = f refl
-
-module _ (words : List ℕ) (at : ℕ) where
-  pub has_short : length words - at < 4 → has_call words at ≡ false
-  unfolding has_call
-  has_short h = rw (lt-leb 4 (length words - at) h)
-
-  pub has_kind : 4 ≤ length words - at → has_call words at ≡ leb (get_or words at 0) 4
-  unfolding has_call
-  has_kind h = rw (le-leb 4 (length words - at) h)
-
-  pub has_room : at ≤ length words → has_call words at ≡ true → at + 4 ≤ length words
-  unfolding has_call
-  has_room p h = let e = and_first (leb 4 (length words - at)) (leb (get_or words at 0) 4) h in omega (arith, leb-true 4 (length words - at) e)
-
-module _ (words atoms : List ℕ) (at : ℕ) where
-  four : at + 4 ≤ length words → drop at words ≡ get_or words at 0 ∷ get_or words (at + 1) 0 ∷ get_or words (at + 2) 0 ∷ get_or words (at + 3) 0 ∷ drop (at + 4) words
-  four room =
-      next words at (at + 1) (omega arith) (omega arith)
-      ∙ ap (λ (l : List ℕ). get_or words at 0 ∷ l) (next words (at + 1) (at + 2) (omega arith) (omega arith)
-      ∙ ap (λ (l : List ℕ). get_or words (at + 1) 0 ∷ l) (next words (at + 2) (at + 3) (omega arith) (omega arith)
-      ∙ ap (λ (l : List ℕ). get_or words (at + 2) 0 ∷ l) (next words (at + 3) (at + 4) (omega arith) (omega arith))))
-
-  -- four words there, by whether the first is a kind
-  rest_as : at + 4 ≤ length words → {b : Bool} → leb (get_or words at 0) 4 ≡ b → decoded (drop at words) atoms ≡ cond b (call_at words atoms at ∷ decoded (drop (at + 4) words) atoms) []
-  unfolding decoded
-  rest_as room e =
-      ap (λ (l : List ℕ). decoded l atoms) (four room)
-      ∙ ap (λ (b : Bool). cond b (call_at words atoms at ∷ decoded (drop (at + 4) words) atoms) []) e
-
-  rest_none : at ≤ length words → has_call words at ≡ false → decoded (drop at words) atoms ≡ []
-  unfolding has_call
-  rest_none p h =
-      and_false _ _ h
-      (λ e. decoded_short (drop at words) atoms (rw (length-drop at words) (leb-false 4 (length words - at) e)))
-      (λ e f. rest_as (omega (arith, leb-true 4 (length words - at) e)) f)
-
-  rest_call : at ≤ length words → has_call words at ≡ true → decoded (drop at words) atoms ≡ call_at words atoms at ∷ decoded (drop (at + 4) words) atoms
-  unfolding has_call
-  rest_call p h = rest_as (has_room words at p h) (and_second (leb 4 (length words - at)) _ h)
+-- four words in front
+pub decoded_four : (words p q atoms : List ℕ) → IsSplitAt words 4 p q
+    → decoded words atoms ≡ cond (leb (get_or p 0 0) 4) (call_of atoms (get_or p 0 0) (get_or p 1 0) (get_or p 2 0) (get_or p 3 0) ∷ decoded q atoms) []
+unfolding decoded
+decoded_four words p q atoms h = four words h.0 ∙ rw (h.1, h.2) refl
+  where
+    four : (l : List ℕ) → 4 ≤ length l
+        → decoded l atoms ≡ cond (leb (get_or (take 4 l) 0 0) 4) (call_of atoms (get_or (take 4 l) 0 0) (get_or (take 4 l) 1 0) (get_or (take 4 l) 2 0) (get_or (take 4 l) 3 0) ∷ decoded (drop 4 l) atoms) []
+    four [] h = absurd (omega arith)
+    four (a ∷ []) h = absurd (omega arith)
+    four (a ∷ b ∷ []) h = absurd (omega arith)
+    four (a ∷ b ∷ c ∷ []) h = absurd (omega arith)
+    four (a ∷ b ∷ c ∷ d ∷ l) h = refl
 
 -- ---- answers
 
@@ -132,29 +89,27 @@ final_none s b w a k =
     ap (λ (x : List ℕ). record { last = w; buffer = b; answers = x; calls = k + 0 }) (pasted_none a k)
     ∙ ap (λ (x : ℕ). record { last = w; buffer = b; answers = a; calls = x }) (add-zero k)
 
--- where a list of calls from the record v is after k of them, with the words from `at` on left: the rest leaves what the whole leaves
-pub record Left (v : Serializer) (s : Style) (words atoms b₀ a₀ b a : List ℕ) (w : Serializer) (k at : ℕ) : Type 0 where
-  pub same : final s b w a k (take (length a₀ - k) (decoded (drop at words) atoms)) ≡ final s b₀ v a₀ 0 (calls_from v words atoms (length a₀))
+-- where a list of calls from the record v is after k of them, with the words `rest` left: the rest leaves what the whole leaves
+pub record Left (v : Serializer) (s : Style) (words atoms b₀ a₀ b a : List ℕ) (w : Serializer) (k : ℕ) (rest : List ℕ) : Type 0 where
+  pub same : final s b w a k (take (length a₀ - k) (decoded rest atoms)) ≡ final s b₀ v a₀ 0 (calls_from v words atoms (length a₀))
   pub index : k ≤ length a₀
-  pub place : at ≤ length words
   pub answers_length : length a ≡ length a₀
   pub buffer_length : length b ≡ length b₀
   pub sound : is_sound w ≡ true
 
-pub start : (s : Style) (words atoms b a : List ℕ) (w : Serializer) → is_sound w ≡ true → Left w s words atoms b a b a w 0 0
+pub start : (s : Style) (words atoms b a : List ℕ) (w : Serializer) → is_sound w ≡ true → Left w s words atoms b a b a w 0 words
 start s words atoms b a w h =
     let z : length a - 0 ≡ length a = omega arith in
     record {
       same = ap (λ (n : ℕ). final s b w a 0 (take n (decoded words atoms))) z ∙ ap (λ (t : Bool). final s b w a 0 (cond t (calls_of words atoms (length a)) [])) (sym h);
       index = omega arith;
-      place = omega arith;
       answers_length = refl;
       buffer_length = refl;
       sound = h;
     }
 
-pub start_fresh : (s : Style) (words atoms b a : List ℕ) (w : Serializer) → w ≡ fresh_serializer → Left fresh_serializer s words atoms b a b a w 0 0
-start_fresh s words atoms b a w e = subst (λ (v : Serializer). Left fresh_serializer s words atoms b a b a v 0 0) (sym e) (start s words atoms b a fresh_serializer fresh_sound)
+pub start_fresh : (s : Style) (words atoms b a : List ℕ) (w : Serializer) → w ≡ fresh_serializer → Left fresh_serializer s words atoms b a b a w 0 words
+start_fresh s words atoms b a w e = subst (λ (v : Serializer). Left fresh_serializer s words atoms b a b a v 0 words) (sym e) (start s words atoms b a fresh_serializer fresh_sound)
 
 -- from an unsound record nothing runs
 pub none_runs : (s : Style) (words atoms b a : List ℕ) (w : Serializer) → is_sound w ≡ false → RunsFrom w s words atoms b a (record { serializer = w; calls = 0 }) b a
@@ -181,9 +136,9 @@ fresh_runs {s} {words} {atoms} {b} {a} {v} e d =
       answers = d.answers ∙ ap (λ (x : Run). pasted a 0 (map answer_word x.answers)) y;
     }
 
-module _ {v : Serializer} {s : Style} {words atoms b₀ a₀ b a : List ℕ} {w : Serializer} {k at : ℕ} (l : Left v s words atoms b₀ a₀ b a w k at) where
+module _ {v : Serializer} {s : Style} {words atoms b₀ a₀ b a : List ℕ} {w : Serializer} {k : ℕ} {rest : List ℕ} (l : Left v s words atoms b₀ a₀ b a w k rest) where
   -- nothing is left
-  finished : take (length a₀ - k) (decoded (drop at words) atoms) ≡ [] → RunsFrom v s words atoms b₀ a₀ (record { serializer = w; calls = k }) b a
+  finished : take (length a₀ - k) (decoded rest atoms) ≡ [] → RunsFrom v s words atoms b₀ a₀ (record { serializer = w; calls = k }) b a
   unfolding final
   finished none =
       let e = sym (final_none s b w a k) ∙ sym (ap (final s b w a k) none) ∙ l.same in
@@ -198,23 +153,22 @@ module _ {v : Serializer} {s : Style} {words atoms b₀ a₀ b a : List ℕ} {w 
   full h =
       let e = l.answers_length in
       let z : length a₀ - k ≡ 0 = omega arith in
-      finished (ap (λ (n : ℕ). take n (decoded (drop at words) atoms)) z)
+      finished (ap (λ (n : ℕ). take n (decoded rest atoms)) z)
 
-  pub stopped : has_call words at ≡ false → RunsFrom v s words atoms b₀ a₀ (record { serializer = w; calls = k }) b a
-  stopped h = finished (ap (take (length a₀ - k)) (rest_none words atoms at l.place h) ∙ take-nil (length a₀ - k))
+  pub stopped : decoded rest atoms ≡ [] → RunsFrom v s words atoms b₀ a₀ (record { serializer = w; calls = k }) b a
+  stopped h = finished (ap (take (length a₀ - k)) h ∙ take-nil (length a₀ - k))
 
   -- one call more
-  pub on : {u : Serializer} {bx : List ℕ} {x : ℕ} → k < length a → has_call words at ≡ true
-      → u ≡ (step s (length b) w (call_at words atoms at)).serializer → x ≡ answer_word (step s (length b) w (call_at words atoms at)).answer
-      → bx ≡ pasted b w.position (step s (length b) w (call_at words atoms at)).bytes → length bx ≡ length b
-      → Left v s words atoms b₀ a₀ bx (set a k x) u (k + 1) (at + 4)
-  on {u} {bx} {x} h has left told wrote keeps =
+  pub on : {u : Serializer} {bx : List ℕ} {x : ℕ} (c : Call) (behind : List ℕ) → k < length a → decoded rest atoms ≡ c ∷ decoded behind atoms
+      → u ≡ (step s (length b) w c).serializer → x ≡ answer_word (step s (length b) w c).answer
+      → bx ≡ pasted b w.position (step s (length b) w c).bytes → length bx ≡ length b
+      → Left v s words atoms b₀ a₀ bx (set a k x) u (k + 1) behind
+  on {u} {bx} {x} c behind h has left told wrote keeps =
       let e = l.answers_length in
-      let c = call_at words atoms at in
       let d = step s (length b) w c in
-      let cs = take (length a₀ - (k + 1)) (decoded (drop (at + 4) words) atoms) in
+      let cs = take (length a₀ - (k + 1)) (decoded behind atoms) in
       let z : length a₀ - k ≡ suc (length a₀ - (k + 1)) = omega arith in
-      let split : take (length a₀ - k) (decoded (drop at words) atoms) ≡ c ∷ cs = ap (take (length a₀ - k)) (rest_call words atoms at l.place has) ∙ ap (λ (n : ℕ). take n (c ∷ decoded (drop (at + 4) words) atoms)) z in
+      let split : take (length a₀ - k) (decoded rest atoms) ≡ c ∷ cs = ap (take (length a₀ - k)) has ∙ ap (λ (n : ℕ). take n (c ∷ decoded behind atoms)) z in
       record {
         same =
             ap (λ (y : List ℕ). final s y u (set a k x) (k + 1) cs) wrote
@@ -224,7 +178,6 @@ module _ {v : Serializer} {s : Style} {words atoms b₀ a₀ b a : List ℕ} {w 
             ∙ sym (ap (final s b w a k) split)
             ∙ l.same;
         index = omega arith;
-        place = has_room words at l.place has;
         answers_length = length-set a k x ∙ e;
         buffer_length = keeps ∙ l.buffer_length;
         sound = ap is_sound left ∙ sound_kept s (length b) w c l.sound;

@@ -4,6 +4,7 @@ use Rattle.std.specs.Prelude.{ℕ, ◌-◌, ◌^◌, Bool, true, false, List, []
 use Rattle.sise_serializer.specs.Bytes.{pasted}
 use Rattle.sise_serializer.specs.Serializer.{Style, Answer, accepted, refused, Written, DoesAs, put_atom, begin_list, end_list, finish_writing, fresh_serializer}
 use Rattle.sise_serializer.specs.declared.serializer.Serializer.{Serializer}
+use Rattle.sise_serializer.specs.declared.serializer.WriteError.{WriteError}
 use Rattle.sise_serializer.specs.declared.serializer.Wrote.{Wrote}
 
 -- "Atom, threshold and the wish for a final break are free at each call"
@@ -27,7 +28,7 @@ step s room w end_list_call = end_list s room w
 step s room w (finish_call wished) = finish_writing s room w wished
 
 -- what a call promises, that began with the style s, the record w and the buffer `before` and ended with the result r and the buffer `now`
-abbrev pub Does : Call → Style → Serializer → List ℕ → Wrote → List ℕ → Type 0
+abbrev pub Does : Call → Style → Serializer → List ℕ → Wrote WriteError → List ℕ → Type 0
 Does c s w before r now = DoesAs (step s (length before) w c) w before r now
 
 abbrev pub is_accepted : Answer → Bool

@@ -30,17 +30,13 @@ abbrev pub break_bytes : Bool → List ℕ → List ℕ
 break_bytes wished l = cond wished l []
 
 -- what a call on the record w hands back: a refusal leaves the record
-abbrev pub wrote_of : Serializer → Result Placed WriteError → Wrote
+abbrev pub wrote_of : {E : Type 0} → Serializer → Result Placed E → Wrote E
 wrote_of w (Ok p) = record { serializer = p.serializer; answer = Ok p.offset }
 wrote_of w (Err e) = record { serializer = w; answer = Err e }
 
 -- what a function promises that makes a call
 abbrev pub Makes : Call → Style → Serializer → List ℕ → Result Placed WriteError → List ℕ → Type 0
 Makes c s w before r now = Does c s w before (wrote_of w r) now
-
--- what a function promises that writes a piece where it fits
-abbrev pub Places : Piece → Serializer → List ℕ → Result Placed WriteError → List ℕ → Type 0
-Places p w before r now = DoesAs (place (length before) w p) w before (wrote_of w r) now
 
 -- the first item, by its token and whether it begins a list
 unfoldable pub first_item : Serializer → List ℕ → Bool → Piece

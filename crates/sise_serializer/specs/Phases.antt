@@ -3,7 +3,7 @@
 use Rattle.std.specs.Prelude.{ℕ, ◌≡◌, ◌<◌, Result, MatchResult}
 use Rattle.sise_serializer.specs.declared.serializer.Phase.{Phase}
 use Rattle.sise_serializer.specs.declared.serializer.Phase.TheVariants.{Beginning, Writing, Finished, Done}
-use Rattle.sise_serializer.specs.declared.serializer.UnknownPhase.{UnknownPhase}
+use Rattle.sise_parser.specs.declared.reader.UnknownPhase.{UnknownPhase}
 
 -- a phase's number
 abbrev pub phase_word : Phase → ℕ

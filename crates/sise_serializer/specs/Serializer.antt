@@ -113,7 +113,7 @@ abbrev pub refuse : ℕ → Serializer → Written
 refuse n w = record { serializer = w; answer = refused n; bytes = [] }
 
 -- what a call promises, that began with the record w and the buffer `before` and ended with the result r and the buffer `now`: it does as d says
-pub record DoesAs (d : Written) (w : Serializer) (before : List ℕ) (r : Wrote) (now : List ℕ) : Type 0 where
+pub record DoesAs (d : Written) (w : Serializer) (before : List ℕ) (r : Wrote WriteError) (now : List ℕ) : Type 0 where
   pub serializer : r.serializer ≡ d.serializer
   pub answer : answer_as r.answer ≡ d.answer
   pub buffer : now ≡ pasted before w.position d.bytes

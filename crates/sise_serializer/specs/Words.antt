@@ -1,9 +1,12 @@
 -- Lists of the writer's calls as numbers: four words a call, and a word for each answer (document 01, "serializer.rs: the writer").
 -- Assumes nothing.
-use Rattle.std.specs.Prelude.{ℕ, ◌+◌, ◌-◌, ◌^◌, ◌≡◌, Bool, true, false, ◌&&◌, cond, List, [], ◌∷◌, map, eqb, leb, length, get_or, take}
+use Rattle.std.specs.Prelude.{ℕ, ◌+◌, ◌^◌, ◌≡◌, true, false, cond, List, [], ◌∷◌, map, eqb, leb, length, get_or, take, drop, Option, MatchOption}
+use Rattle.std.specs.Borrow.{Bor}
 use Rattle.sise_parser.specs.Reader.{part_of}
 use Rattle.sise_serializer.specs.Bytes.{pasted}
 use Rattle.sise_serializer.specs.Serializer.{Style, Answer, accepted, refused, is_sound}
+use Rattle.sise_serializer.specs.declared.calls.Call as code
+use Rattle.sise_serializer.specs.declared.calls.Call.TheVariants.{PutAtom, BeginList, EndList, Finish}
 use Rattle.sise_serializer.specs.declared.calls.Ran.{Ran}
 use Rattle.sise_serializer.specs.declared.serializer.Serializer.{Serializer}
 use Rattle.sise_serializer.specs.Calls.{Call, put_atom_call, begin_list_call, end_list_call, finish_call, run, writing}
@@ -22,9 +25,16 @@ call_of atoms kind place n t =
 abbrev pub call_at : List ℕ → List ℕ → ℕ → Call
 call_at words atoms at = call_of atoms (get_or words at 0) (get_or words (at + 1) 0) (get_or words (at + 2) 0) (get_or words (at + 3) 0)
 
--- whether four words stand at `at`, the first of them a kind
-unfoldable pub has_call : List ℕ → ℕ → Bool
-has_call words at = leb 4 (length words - at) && leb (get_or words at 0) 4
+-- a call of the code
+abbrev pub call_as : code.Call → Call
+call_as (PutAtom atom t) = put_atom_call atom.now t
+call_as (BeginList t) = begin_list_call t
+call_as EndList = end_list_call
+call_as (Finish wished) = finish_call wished
+
+-- r is the call that four words mean, if the kind is one
+abbrev pub Decodes : List ℕ → ℕ → ℕ → ℕ → ℕ → Option code.Call → Type 0
+Decodes atoms kind place n t r = MatchOption r (leb kind 4 ≡ false) (λ c. (leb kind 4 ≡ true) × (call_as c ≡ call_of atoms kind place n t))
 
 -- the calls that the words mean: kind, place, length and threshold of each, up to the first kind above 4, or to a rest of fewer than four words
 unfoldable pub decoded : List ℕ → List ℕ → List Call
@@ -33,6 +43,10 @@ decoded (kind ∷ place ∷ n ∷ []) atoms = []
 decoded (kind ∷ place ∷ []) atoms = []
 decoded (kind ∷ []) atoms = []
 decoded [] atoms = []
+
+-- r is the first of them, and the words behind its four
+abbrev pub ReadsCall : List ℕ → List ℕ → Option (code.Call × Bor (List ℕ)) → Type 0
+ReadsCall words atoms r = MatchOption r (decoded words atoms ≡ []) (λ p. (decoded words atoms ≡ call_as p.0 ∷ decoded p.1.now atoms) × (p.1.now ≡ drop 4 words))
 
 -- as many of them as there is room for answers
 abbrev pub calls_of : List ℕ → List ℕ → ℕ → List Call

@@ -1,8 +1,11 @@
 // Bytes into a lent buffer: where a token goes, and layout and a token written there.
 ghost use Rattle.std.specs.Prelude.{◌≡◌, [], ◌∷◌, ◌++◌, ◌+◌, ◌*◌, ◌≤◌, leb, length, IfSome};
 ghost use Rattle.sise_serializer.specs.Bytes.{pasted, pasted_if, repeat};
+ghost use Rattle.sise_serializer.specs.Plan.{layout_bytes};
 ghost use Rattle.sise_serializer.specs.Parts.{spot_of, gap_bytes, break_bytes};
 ghost use Rattle.sise_serializer.specs.Serializer.{style_of, new_line_of};
+
+use crate::plan::Layout;
 
 // The longest text.
 pub const LIMIT: usize = 16777216;
@@ -34,10 +37,7 @@ pub struct Spot {
 fn has_room(left: usize, times: usize, size: usize) -> bool
     ensures { result ≡ leb (times * size) left }
 {
-    match times.checked_mul(size) {
-        Some(bytes) => bytes <= left,
-        None => false,
-    }
+    times.checked_mul(size).is_some_and(|bytes| bytes <= left)
 }
 
 // The spot of a token of `token` bytes behind `lead` bytes and `times` indentations, the whole beginning at `position` in a buffer of `room` bytes.
@@ -86,44 +86,48 @@ fn uniform_byte(src: &[u8]) -> Option<u8>
     ensures { IfSome result (λ byte. src.now ≡ repeat (length src.now) (byte ∷ [])) }
 {
     let first = *src.first()?;
-    if src.iter().all(|&byte| byte == first) {
-        return Some(first);
-    }
-    None
+    src.iter().all(|&byte| byte == first).then_some(first)
 }
 
-// Copies `src` as many as `times` times, each behind the last, and returns where the last one ends.
-fn copies(buf: &mut [u8], at: usize, times: usize, src: &[u8]) -> usize
+// Copies `src` as many as `times` times, each behind the last. By chunks_exact_mut it is no plainer: chunks of no byte are not allowed, so that an empty `src`
+// needs a test of its own.
+fn copies(buf: &mut [u8], at: usize, times: usize, src: &[u8])
     requires { at + times * length src.now ≤ length buf.old }
-    ensures value { result ≡ at + length (repeat times src.now) }
-    ensures buf_after { buf.new ≡ pasted buf.old at (repeat times src.now) }
+    ensures { buf.new ≡ pasted buf.old at (repeat times src.now) }
 {
     let end = at + times * src.len();
     if let Some(byte) = uniform_byte(src) {
         buf[at..end].fill(byte);
-        return end;
+        return;
     }
     let mut to = at;
     for _ in 0..times {
         copy(buf, to, src);
         to += src.len();
     }
-    end
 }
 
-// A line break and `times` indentations. Returns where they end.
-pub(crate) fn write_line(
-    buf: &mut [u8],
-    at: usize,
-    style: SerializerStyle<'_>,
-    times: usize,
-) -> usize
+// A line break and `times` indentations.
+#[inline(always)]
+fn write_line(buf: &mut [u8], at: usize, style: SerializerStyle<'_>, times: usize)
     requires { at + length (new_line_of (style_of style) times) ≤ length buf.old }
-    ensures value { result ≡ at + length (new_line_of (style_of style.entry) times) }
-    ensures buf_after { buf.new ≡ pasted buf.old at (new_line_of (style_of style.entry) times) }
+    ensures { buf.new ≡ pasted buf.old at (new_line_of (style_of style.entry) times) }
 {
     copy(buf, at, style.line_break);
-    copies(buf, at + style.line_break.len(), times, style.indentation)
+    copies(buf, at + style.line_break.len(), times, style.indentation);
+}
+
+// What stands before a token.
+#[inline(always)]
+pub(crate) fn write_layout(buf: &mut [u8], at: usize, style: SerializerStyle<'_>, layout: Layout)
+    requires { at + length (layout_bytes (style_of style) layout) ≤ length buf.old }
+    ensures { buf.new ≡ pasted buf.old at (layout_bytes (style_of style.entry) layout) }
+{
+    match layout {
+        Layout::Nothing => {}
+        Layout::Space => buf[at] = b' ',
+        Layout::Line(times) => write_line(buf, at, style, times),
+    }
 }
 
 // ---- for callers in other crates: bytes are copied where they have room, and nothing otherwise

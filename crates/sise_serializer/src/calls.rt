@@ -1,12 +1,13 @@
 // A whole list of the writer's calls, as numbers: four words a call, and one word for each answer.
-ghost use Rattle.std.specs.Prelude.{◌≡◌, ◌+◌, ◌≤◌, length};
+ghost use Rattle.std.specs.Prelude.{◌≡◌};
 ghost use Rattle.sise_serializer.specs.Serializer.{style_of, answer_as};
+ghost use Rattle.sise_serializer.specs.Calls.{Does};
 ghost use Rattle.sise_serializer.specs.Parts.{Makes};
-ghost use Rattle.sise_serializer.specs.Words.{call_at, has_call, answer_word, Runs, RunsFrom};
+ghost use Rattle.sise_serializer.specs.Words.{call_as, answer_word, Decodes, ReadsCall, Runs, RunsFrom};
 
 use crate::buffer::SerializerStyle;
 use crate::serializer::{
-    Placed, Serializer, WriteError, close_list, finish_text, open_list, write_atom,
+    Placed, Serializer, WriteError, Wrote, close_list, finish_text, open_list, write_atom,
 };
 use crate::sound_serializer::SoundSerializer;
 use sise_parser::{Refusal, atom_bytes};
@@ -18,7 +19,60 @@ pub struct Ran {
     pub calls: usize,
 }
 
-// An answer's word: the offset, or 2 ^ 32 and the refusal's number.
+// A call of a list.
+#[derive(Clone, Copy, Debug, PartialEq, Eq)]
+pub enum Call<'a> {
+    PutAtom { atom: &'a [u8], break_line_at: u64 },
+    BeginList { break_line_at: u64 },
+    EndList,
+    Finish { insert_line_break: bool },
+}
+
+impl<'a> Call<'a> {
+    // The call that four words mean; none if the kind is above 4. Kinds are numbers here, since C writes them.
+    #[inline(always)]
+    #[tactic(auto, unfolding(crate::specs::Words::call_of))]
+    fn of_words(
+        atoms: &'a [u8],
+        kind: u64,
+        place: u64,
+        len: u64,
+        break_line_at: u64,
+    ) -> Option<Call<'a>>
+        ensures { Decodes atoms.now kind place len break_line_at result }
+    {
+        match kind {
+            0 => {
+                let atom = atom_bytes(atoms, place as usize, len as usize);
+                Some(Call::PutAtom {
+                    atom,
+                    break_line_at,
+                })
+            }
+            1 => Some(Call::BeginList { break_line_at }),
+            2 => Some(Call::EndList),
+            3 => Some(Call::Finish {
+                insert_line_break: false,
+            }),
+            4 => Some(Call::Finish {
+                insert_line_break: true,
+            }),
+            _ => None,
+        }
+    }
+}
+
+// The call that the first four words mean, and the words behind them. There is none where fewer are left, or where the first is no call's kind.
+#[inline(always)]
+pub fn next_call<'a, 'b>(words: &'b [u64], atoms: &'a [u8]) -> Option<(Call<'a>, &'b [u64])>
+    ensures { ReadsCall words.now atoms.now result }
+{
+    let (four, behind) = words.split_at_checked(4)?;
+    let call = Call::of_words(atoms, four[0], four[1], four[2], four[3])?;
+    Some((call, behind))
+}
+
+// An answer's word, since C reads it: the offset, or 2 ^ 32 and the refusal's number.
 pub fn put_word(answer: Result<usize, WriteError>) -> u64
     ensures { result ≡ answer_word (answer_as answer) }
 {
@@ -28,44 +82,41 @@ pub fn put_word(answer: Result<usize, WriteError>) -> u64
     }
 }
 
-// Whether a call's four words stand at `at`: they do not if fewer are left, or if the kind is above 4.
-pub fn has_call(words: &[u64], at: usize) -> bool
-    ensures { result ≡ has_call words.now at }
-{
-    if words.len() < at {
-        return false;
-    }
-    if words.len() - at < 4 {
-        return false;
-    }
-    words[at] <= 4
-}
-
-// Runs the call whose four words stand at `at`. Its kind is a number, as C writes it.
+// Makes a call.
+#[inline(always)]
 fn run_call(
     w: SoundSerializer,
-    words: &[u64],
-    at: usize,
-    atoms: &[u8],
+    call: Call<'_>,
     style: SerializerStyle<'_>,
     buf: &mut [u8],
 ) -> Result<Placed, WriteError>
-    requires { at + 4 ≤ length words.now }
-    ensures { Makes (call_at words.now atoms.now at) (style_of style.entry) w.serializer buf.old result buf.new }
+    ensures { Makes (call_as call.entry) (style_of style.entry) w.serializer buf.old result buf.new }
 {
-    let kind = words[at];
-    let place = words[at + 1];
-    let len = words[at + 2];
-    let threshold = words[at + 3];
-    match kind {
-        0 => {
-            let atom = atom_bytes(atoms, place as usize, len as usize);
-            write_atom(w, style, buf, atom, threshold)
+    match call {
+        Call::PutAtom {
+            atom,
+            break_line_at,
+        } => write_atom(w, style, buf, atom, break_line_at),
+        Call::BeginList { break_line_at } => open_list(w, style, buf, break_line_at),
+        Call::EndList => close_list(w, style, buf),
+        Call::Finish { insert_line_break } => finish_text(w, style, buf, insert_line_break),
+    }
+}
+
+impl Serializer {
+    // Makes a call by the method of its own.
+    pub fn make_call(self, call: Call<'_>, style: SerializerStyle<'_>, buf: &mut [u8]) -> Wrote
+        ensures { Does (call_as call.entry) (style_of style.entry) self buf.old result buf.new }
+    {
+        match call {
+            Call::PutAtom {
+                atom,
+                break_line_at,
+            } => self.put_atom(style, buf, atom, break_line_at),
+            Call::BeginList { break_line_at } => self.begin_list(style, buf, break_line_at),
+            Call::EndList => self.end_list(style, buf),
+            Call::Finish { insert_line_break } => self.finish(style, buf, insert_line_break),
         }
-        1 => open_list(w, style, buf, threshold),
-        2 => close_list(w, style, buf),
-        3 => finish_text(w, style, buf, false),
-        _ => finish_text(w, style, buf, true),
     }
 }
 
@@ -100,20 +151,20 @@ pub fn write_calls_from(
             calls: 0,
         };
     }
-    let mut serializer = from;
-    let mut at = 0;
+    let mut serializer = from.by_fields();
+    let mut rest = words;
     for (k, answer) in answers.iter_mut().enumerate() {
-        if !has_call(words, at) {
+        let Some((call, behind)) = next_call(rest, atoms) else {
             return Ran {
                 serializer,
                 calls: k,
             };
-        }
-        let placed = run_call(SoundSerializer { serializer }, words, at, atoms, style, buf);
+        };
+        let placed = run_call(SoundSerializer { serializer }, call, style, buf);
         let wrote = serializer.wrote(placed);
         *answer = put_word(wrote.answer);
-        serializer = wrote.serializer;
-        at += 4;
+        serializer = wrote.serializer.by_fields();
+        rest = behind;
     }
     Ran {
         serializer,

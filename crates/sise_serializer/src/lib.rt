@@ -3,13 +3,16 @@
 
 mod buffer;
 mod calls;
+mod plan;
 mod serializer;
 mod sound_serializer;
 mod token;
 
 pub use buffer::{LIMIT, SerializerStyle, Spot, find_spot, paste, paste_line, write_gap};
-pub use calls::{Ran, has_call, put_word, write_calls, write_calls_from};
-pub use serializer::{
-    Phase, Serializer, UnknownPhase, WriteError, Wrote, answer_number, phase_after,
-};
+pub use calls::{Call, Ran, next_call, put_word, write_calls, write_calls_from};
+pub use plan::{Layout, Planned};
+pub use serializer::{Phase, Placed, Serializer, WriteError, Wrote, phase_after};
 pub use sound_serializer::SoundSerializer;
+
+// A number that is no phase's, the reader's as well.
+pub use sise_parser::UnknownPhase;

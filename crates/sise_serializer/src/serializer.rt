@@ -1,16 +1,16 @@
-// The writer's record and its four calls. A method tests the record and goes on to the function below that wants a sound one; that one finds out whether
-// the call fits before it writes.
-ghost use Rattle.std.specs.Prelude.{◌≡◌, true, false, [], ◌+◌, ◌*◌, ◌<◌, length, MatchOption};
+// The writer's record and its four calls. A method tests the record and goes on to the function below that wants a sound one; that one plans the call, and
+// writes only what has room. Those are made part of their callers, so that no record goes through memory between them.
+ghost use Rattle.std.specs.Prelude.{◌≡◌, false, MatchOption};
 ghost use Rattle.sise_util.specs.Atom.{is_atom};
-ghost use Rattle.sise_serializer.specs.Serializer.{fresh_serializer, style, style_of, lists_fit, last_break, is_sound, write_refusal, answer_as, number_of, phase_after, new_line, inner_as, close_as, last};
+ghost use Rattle.sise_serializer.specs.Serializer.{fresh_serializer, style_of, lists_fit, last_break, is_sound, write_refusal, phase_after};
 ghost use Rattle.sise_serializer.specs.Calls.{Does, put_atom_call, begin_list_call, end_list_call, finish_call};
-ghost use Rattle.sise_serializer.specs.Parts.{wrote_of, Makes, Places, PutsItem, first_item, in_line, gap_bytes, spot_or_full};
+ghost use Rattle.sise_serializer.specs.Parts.{wrote_of, Makes, PutsItem};
 ghost use Rattle.sise_serializer.specs.Phases.{DecodesPhase};
 
-use crate::buffer::{LIMIT, SerializerStyle, Spot, copy, find_spot, write_gap, write_line};
+use crate::buffer::{LIMIT, SerializerStyle, write_layout};
 use crate::sound_serializer::SoundSerializer;
 use crate::token::{Atom, ListStart, Token};
-use sise_parser::Refusal;
+use sise_parser::{Refusal, UnknownPhase};
 use sise_util::check_atom;
 
 // Where the writer is: before the first item, inside the outermost list, after the last item, or after an accepted finish.
@@ -21,10 +21,6 @@ pub enum Phase {
     Finished,
     Done,
 }
-
-// A number that is no phase's.
-#[derive(Clone, Copy, Debug, PartialEq, Eq)]
-pub struct UnknownPhase(pub u64);
 
 impl TryFrom<u64> for Phase {
     type Error = UnknownPhase;
@@ -69,18 +65,18 @@ pub enum WriteError {
     NoRoom = 22,
 }
 
-// What a call hands back: the record, and the offset of what it wrote.
+// What a call hands back: the record, and the offset of what it wrote or why it is refused. A refusal has a record too, so no Result can carry both.
 #[derive(Clone, Copy, Debug, PartialEq, Eq)]
-pub struct Wrote {
+pub struct Wrote<E = WriteError> {
     pub serializer: Serializer,
-    pub answer: Result<usize, WriteError>,
+    pub answer: Result<usize, E>,
 }
 
 // What an accepted call leaves: the record after it, and the offset of what it wrote.
-#[derive(Clone, Copy)]
-pub(crate) struct Placed {
-    pub(crate) serializer: Serializer,
-    pub(crate) offset: usize,
+#[derive(Clone, Copy, Debug, PartialEq, Eq)]
+pub struct Placed {
+    pub serializer: Serializer,
+    pub offset: usize,
 }
 
 impl Refusal for WriteError {
@@ -96,16 +92,6 @@ impl Refusal for WriteError {
 
     fn code(self) -> u32 {
         0
-    }
-}
-
-// The number of an answer's refusal, 0 for an offset.
-pub fn answer_number(answer: Result<usize, WriteError>) -> u32
-    ensures { result ≡ number_of (answer_as answer) }
-{
-    match answer {
-        Ok(_) => 0,
-        Err(error) => error.number(),
     }
 }
 
@@ -160,7 +146,7 @@ impl Serializer {
             && self.indents <= position * (position + 1)
     }
 
-    // The record with the knowledge that it is sound.
+    // The record with the knowledge that it is sound. By `then` it is no plainer: the closure would have to repeat the test as its `requires`.
     pub fn sound(self) -> Option<SoundSerializer>
         ensures { MatchOption result (is_sound self ≡ false) (λ w. w.serializer ≡ self) }
     {
@@ -170,9 +156,19 @@ impl Serializer {
         None
     }
 
-    // What a call on this record hands back. A refusal leaves the record, which is made anew field by field: to copy the whole, with the unused bytes in it, is
-    // slower.
-    pub(crate) fn wrote(self, placed: Result<Placed, WriteError>) -> Wrote
+    // The same record: `..self` copies the other fields one by one, and so leaves out the unused bytes behind the last, which a copy of the whole takes along.
+    #[inline(always)]
+    pub fn by_fields(self) -> Serializer
+        ensures { result ≡ self }
+    {
+        Serializer {
+            position: self.position,
+            ..self
+        }
+    }
+
+    // What a call on this record hands back. A refusal leaves the record.
+    pub fn wrote<E: Copy>(self, placed: Result<Placed, E>) -> Wrote<E>
         ensures { result ≡ wrote_of self placed }
     {
         match placed {
@@ -181,10 +177,7 @@ impl Serializer {
                 answer: Ok(placed.offset),
             },
             Err(error) => Wrote {
-                serializer: Serializer {
-                    position: self.position,
-                    ..self
-                },
+                serializer: self.by_fields(),
                 answer: Err(error),
             },
         }
@@ -242,15 +235,17 @@ impl Serializer {
     }
 }
 
-// ---- put_atom and begin_list
+// ---- put_atom and begin_list; w, style and buf are three parameters, since buf is lent to be written and the others are read: a struct of them is no plainer,
+// it would be made at each call and taken apart at once
 
-// "Putting an atom needs only whether it is no."
+// Whether the bytes are an atom; of which kind does not matter here.
 fn is_atom(atom: &[u8]) -> bool
     ensures { result ≡ is_atom atom.now }
 {
     check_atom(atom).is_some()
 }
 
+#[inline(always)]
 pub(crate) fn write_atom(
     w: SoundSerializer,
     style: SerializerStyle<'_>,
@@ -266,6 +261,7 @@ pub(crate) fn write_atom(
     write_item(w, style, buf, Atom(atom), break_line_at)
 }
 
+#[inline(always)]
 pub(crate) fn open_list(
     w: SoundSerializer,
     style: SerializerStyle<'_>,
@@ -277,7 +273,8 @@ pub(crate) fn open_list(
     write_item(w, style, buf, ListStart, break_line_at)
 }
 
-// An item goes to the start of the text, or into the list that is open.
+// An item: its layout and its token.
+#[inline(always)]
 fn write_item<T: Token>(
     w: SoundSerializer,
     style: SerializerStyle<'_>,
@@ -287,120 +284,16 @@ fn write_item<T: Token>(
 ) -> Result<Placed, WriteError>
     ensures { PutsItem (style_of style.entry) w.serializer (T.bytes token) T.is_list break_line_at buf.old result buf.new }
 {
-    match w.serializer.phase {
-        Phase::Beginning => first(w, buf, token),
-        Phase::Writing => {
-            if break_line_at <= w.serializer.line_len as u64 {
-                return on_new_line(w, style, buf, token);
-            }
-            in_line(w, buf, token)
-        }
-        Phase::Finished | Phase::Done => Err(WriteError::WritingFinished),
-    }
-}
-
-// The first item. After an atom the text has no other.
-fn first<T: Token>(w: SoundSerializer, buf: &mut [u8], token: T) -> Result<Placed, WriteError>
-    ensures { Places (first_item w.serializer (T.bytes token) T.is_list) w.serializer buf.old result buf.new }
-{
-    let w = w.serializer;
-    let len = token.len();
-    let spot = find(w, buf, 0, 0, 0, len)?;
-    token.put(buf, spot.at);
-    let serializer = if token.is_list() {
-        Serializer {
-            position: spot.end,
-            lists: 1,
-            broken: 0,
-            line_len: len,
-            phase: Phase::Writing,
-            list_beginning: true,
-            ..w
-        }
-    } else {
-        Serializer {
-            position: spot.end,
-            lists: 0,
-            broken: 0,
-            phase: Phase::Finished,
-            ..w
-        }
-    };
-    Ok(Placed {
-        serializer,
-        offset: spot.at,
-    })
-}
-
-// On a new line. Every list that is open has a break in it from then on, but not one that the item begins.
-fn on_new_line<T: Token>(
-    w: SoundSerializer,
-    style: SerializerStyle<'_>,
-    buf: &mut [u8],
-    token: T,
-) -> Result<Placed, WriteError>
-    ensures { Places (inner_as (style_of style.entry) w.serializer (T.bytes token) T.is_list new_line) w.serializer buf.old result buf.new }
-{
-    let w = w.serializer;
-    let size = style.indentation.len();
-    let len = token.len();
-    let spot = find(w, buf, style.line_break.len(), w.lists, size, len)?;
-    write_line(buf, w.position, style, w.lists);
-    token.put(buf, spot.at);
-    let serializer = Serializer {
-        position: spot.end,
-        lists: w.lists + usize::from(token.is_list()),
-        broken: w.lists,
-        line_len: w.lists * size + len,
-        breaks: w.breaks + 1,
-        indents: w.indents + w.lists,
-        phase: Phase::Writing,
-        list_beginning: token.is_list(),
-        ..w
-    };
-    Ok(Placed {
-        serializer,
-        offset: spot.at,
-    })
-}
-
-// In the same line, behind a space unless it is the first of its list.
-fn in_line<T: Token>(w: SoundSerializer, buf: &mut [u8], token: T) -> Result<Placed, WriteError>
-    ensures { Places (in_line w.serializer (T.bytes token) T.is_list (gap_bytes w.serializer.list_beginning)) w.serializer buf.old result buf.new }
-{
-    let w = w.serializer;
-    let lead = usize::from(!w.list_beginning);
-    let len = token.len();
-    let spot = find(w, buf, lead, 0, 0, len)?;
-    write_gap(buf, w.position, w.list_beginning);
-    token.put(buf, spot.at);
-    let serializer = Serializer {
-        position: spot.end,
-        lists: w.lists + usize::from(token.is_list()),
-        line_len: w.line_len + lead + len,
-        spaces: w.spaces + lead,
-        phase: Phase::Writing,
-        list_beginning: token.is_list(),
-        ..w
-    };
-    Ok(Placed {
-        serializer,
-        offset: spot.at,
-    })
-}
-
-// The spot of a token behind its layout, from the writer's position on.
-fn find(
-    w: Serializer,
-    buf: &[u8],
-    lead: usize,
-    times: usize,
-    size: usize,
-    token: usize,
-) -> Result<Spot, WriteError>
-    ensures { result ≡ spot_or_full (length buf.now) w.position (lead + times * size) token }
-{
-    find_spot(w.position, buf.len(), lead, times, size, token).ok_or(WriteError::NoRoom)
+    let planned = w.plan_item(
+        style,
+        buf.len(),
+        token.len(),
+        token.is_list(),
+        break_line_at,
+    )?;
+    write_layout(buf, w.serializer.position, style, planned.layout);
+    token.put(buf, planned.placed.offset);
+    Ok(planned.placed)
 }
 
 // ---- end_list
@@ -416,6 +309,7 @@ pub fn phase_after(lists: usize) -> Phase
     }
 }
 
+#[inline(always)]
 pub(crate) fn close_list(
     w: SoundSerializer,
     style: SerializerStyle<'_>,
@@ -423,77 +317,15 @@ pub(crate) fn close_list(
 ) -> Result<Placed, WriteError>
     ensures { Makes end_list_call (style_of style.entry) w.serializer buf.old result buf.new }
 {
-    match w.serializer.phase {
-        Phase::Beginning => Err(WriteError::NoListToEnd),
-        Phase::Writing => {
-            if w.serializer.broken == w.serializer.lists {
-                return close_on_new_line(w, style, buf);
-            }
-            close_in_line(w, buf)
-        }
-        Phase::Finished | Phase::Done => Err(WriteError::WritingFinished),
-    }
-}
-
-// A `)` on a line of its own, since a break is in its list. Then one is in every open list, and stays in those left.
-fn close_on_new_line(
-    w: SoundSerializer,
-    style: SerializerStyle<'_>,
-    buf: &mut [u8],
-) -> Result<Placed, WriteError>
-    requires open { 0 < w.serializer.lists }
-    requires broken { w.serializer.broken ≡ w.serializer.lists }
-    ensures { Places (close_as (style_of style.entry) w.serializer true) w.serializer buf.old result buf.new }
-{
-    let w = w.serializer;
-    let left = w.lists - 1;
-    let size = style.indentation.len();
-    let spot = find(w, buf, style.line_break.len(), left, size, 1)?;
-    write_line(buf, w.position, style, left);
-    buf[spot.at] = b')';
-    let serializer = Serializer {
-        position: spot.end,
-        lists: left,
-        broken: left,
-        line_len: left * size + 1,
-        breaks: w.breaks + 1,
-        indents: w.indents + left,
-        phase: phase_after(left),
-        list_beginning: false,
-        ..w
-    };
-    Ok(Placed {
-        serializer,
-        offset: spot.at,
-    })
-}
-
-// A `)` in the same line.
-fn close_in_line(w: SoundSerializer, buf: &mut [u8]) -> Result<Placed, WriteError>
-    requires { w.serializer.broken < w.serializer.lists }
-    ensures { Places (close_as (style [] []) w.serializer false) w.serializer buf.old result buf.new }
-{
-    let w = w.serializer;
-    let left = w.lists - 1;
-    let spot = find(w, buf, 0, 0, 0, 1)?;
-    buf[spot.at] = b')';
-    let serializer = Serializer {
-        position: spot.end,
-        lists: left,
-        line_len: w.line_len + 1,
-        phase: phase_after(left),
-        list_beginning: false,
-        ..w
-    };
-    Ok(Placed {
-        serializer,
-        offset: spot.at,
-    })
+    let planned = w.plan_end(style, buf.len())?;
+    write_layout(buf, w.serializer.position, style, planned.layout);
+    buf[planned.placed.offset] = b')';
+    Ok(planned.placed)
 }
 
 // ---- finish
 
-// The indentation is unused: every call takes the same style.
+#[inline(always)]
 pub(crate) fn finish_text(
     w: SoundSerializer,
     style: SerializerStyle<'_>,
@@ -502,34 +334,7 @@ pub(crate) fn finish_text(
 ) -> Result<Placed, WriteError>
     ensures { Makes (finish_call insert_line_break) (style_of style.entry) w.serializer buf.old result buf.new }
 {
-    match w.serializer.phase {
-        Phase::Beginning | Phase::Writing => Err(WriteError::WritingNotFinished),
-        Phase::Finished => last(w, style, buf, insert_line_break),
-        Phase::Done => Err(WriteError::WritingFinished),
-    }
-}
-
-// The end of the text, with a line break if wished.
-fn last(
-    w: SoundSerializer,
-    style: SerializerStyle<'_>,
-    buf: &mut [u8],
-    insert_line_break: bool,
-) -> Result<Placed, WriteError>
-    ensures { Places (last (style_of style.entry) w.serializer insert_line_break) w.serializer buf.old result buf.new }
-{
-    let w = w.serializer;
-    let line_break = style.final_break(insert_line_break);
-    let spot = find(w, buf, line_break.len(), 0, 0, 0)?;
-    copy(buf, w.position, line_break);
-    let serializer = Serializer {
-        position: spot.end,
-        breaks: w.breaks + usize::from(insert_line_break),
-        phase: Phase::Done,
-        ..w
-    };
-    Ok(Placed {
-        serializer,
-        offset: spot.at,
-    })
+    let planned = w.plan_finish(style, buf.len(), insert_line_break)?;
+    write_layout(buf, w.serializer.position, style, planned.layout);
+    Ok(planned.placed)
 }

@@ -56,7 +56,7 @@ closing words {next} {parent} (f, c, rest, h) =
       back = omega (arith, h.parents, next_at f);
     }
 
-module _ (words : List ℕ) {next parent i : ℕ} (is : i ≡ parent) (small : next < 2 ^ 32) where
+module _ (words : List ℕ) {next parent i : ℕ} (is : i ≡ parent) where
   pub closed_attachable :
       (f : Frames) (c : Nodes) (rest : List ℕ) → Closable words next parent f c rest
       → Attachable (set words (4 * i + 3) (next - parent)) (parent - get_or words (4 * i + 2) 0) parent f (list c) rest
@@ -69,7 +69,7 @@ module _ (words : List ℕ) {next parent i : ℕ} (is : i ≡ parent) (small : n
         shown = rw (z, q, h.shown) (close_set f c rest);
         parents = omega (arith, h.parents, next_at f);
         nexts = h.parents;
-        small = omega (arith, h.nexts);
+        small = omega (arith, h.nexts, h.small);
       }
 
   pub closes_set :

@@ -118,21 +118,24 @@ module _ {w₀ words : List ℕ} {f : Frames} {m : Mark} (h : Shows w₀ (inside
 -- a list's end
 module _ {text w₀ words : List ℕ} {m : Mark} {i : ParsedItem} {p end : ℕ} (t : i ≡ ListEnd p) where
   pub end_closable : (f : Frames) → Shows w₀ (inside f) words m → Fits text (length words) f i end → CanClose words m.next m.parent
-  unfolding turn close filled_in innermost_in render_in
+  unfolding turn close filled filled_in innermost_in render_in size
   end_closable top h u = absurd (u.due p (ap (turn text top) t))
-  end_closable (f ▹ c) h u = (f, c, drop (4 * filled (f ▹ c)) w₀, record { shown = h.shown; nexts = h.nexts; parents = h.parents })
+  end_closable (f ▹ c) h u =
+      let z : filled_in (turn text (f ▹ c) i) ≡ filled f + (1 + sizes c) = ap (λ (j : ParsedItem). filled_in (turn text (f ▹ c) j)) t ∙ attach_filled f (list c) in
+      (f, c, drop (4 * filled (f ▹ c)) w₀, record { shown = h.shown; nexts = h.nexts; parents = h.parents; small = omega (arith, h.nexts, z, u.small) })
 
   pub end_turns :
-      (f : Frames) → Shows w₀ (inside f) words m → Fits text (length words) f i end → {r : ℕ} {now : List ℕ}
-      → Closes words m.next m.parent r now → Shows w₀ (turn text f i) now (record { next = m.next; parent = r })
+      (f : Frames) → Shows w₀ (inside f) words m → Fits text (length words) f i end → {r : Mark} {now : List ℕ}
+      → r.next ≡ m.next → Closes words m.next m.parent r.parent now → Shows w₀ (turn text f i) now r
   unfolding turn close filled_in innermost_in render_in filled size
-  end_turns top h u a = absurd (u.due p (ap (turn text top) t))
-  end_turns (f ▹ c) h u {r} {now} a =
-      let k = a f c (drop (4 * filled (f ▹ c)) w₀) (record { shown = h.shown; nexts = h.nexts; parents = h.parents }) in
+  end_turns top h u b a = absurd (u.due p (ap (turn text top) t))
+  end_turns (f ▹ c) h u {r} {now} b a =
       let z : filled_in (attach f (list c)) ≡ filled f + (1 + sizes c) = attach_filled f (list c) in
-      subst (λ (s : Stage). Shows w₀ s now (record { next = m.next; parent = r })) (sym (ap (turn text (f ▹ c)) t))
+      let y = ap (λ (j : ParsedItem). filled_in (turn text (f ▹ c) j)) t ∙ z in
+      let k = a f c (drop (4 * filled (f ▹ c)) w₀) (record { shown = h.shown; nexts = h.nexts; parents = h.parents; small = omega (arith, h.nexts, y, u.small) }) in
+      subst (λ (s : Stage). Shows w₀ s now r) (sym (ap (turn text (f ▹ c)) t))
       (record {
         shown = k.1 ∙ ap (λ (j : ℕ). render_in (attach f (list c)) ++ drop (4 * j) w₀) (sym z);
-        nexts = h.nexts ∙ sym z;
+        nexts = b ∙ h.nexts ∙ sym z;
         parents = k.0 ∙ sym (attach_innermost f (list c));
       })

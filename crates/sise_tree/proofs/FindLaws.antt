@@ -4,16 +4,18 @@
 use Prim.Native.Nat.{ℕ, zero, suc, ◌+◌, ◌-◌, ◌/◌, ◌≤◌, ◌<◌}
 use native.Mathlib.Numerals.{add-one}
 use native.Mathlib.Omega.{arith}
-use mathlib.Core.Path.{◌≡◌, sym, ap, ◌∙◌}
+use mathlib.Core.Path.{◌≡◌, refl, sym, ap, ◌∙◌}
 use mathlib.Core.Bool.{true, false}
 use mathlib.Core.List.{List, [], ◌∷◌}
-use lib.Dec.{eqb}
 use lib.ListN.{length, get_or, drop, drop_of_length-le}
 use lib.Seq.{drop-cons}
 use borrow.Author.Tests.{lt-ltb, le-ltb, ne_eqb}
+use Rattle.std.specs.Prelude.{Option, Some, None}
 use Rattle.sise_tree.specs.Tree.{kind, first, span}
+use Rattle.sise_tree.specs.declared.tree.NodeWords.{NodeWords}
+use Rattle.sise_tree.specs.NodeWords.{Words}
 use Rattle.sise_tree.specs.ParseTree.{longest}
-use Rattle.sise_tree.specs.FindPath.{Way, looks, stops, reads, passing, has_child, follow, found, refused, looked_up, find_path}
+use Rattle.sise_tree.specs.FindPath.{Way, looks, stops, reads, passing, has_child, follow, found, refused, looked_up, find_path, past, Passes}
 
 module _ (words : List ℕ) {i : ℕ} where
   pub read_inside : (w : Way) → i < length words / 4 → reads words i w ≡ looks i w
@@ -53,77 +55,118 @@ module _ (words : List ℕ) {i : ℕ} where
   unfolding follow
   follow_child k path h e = rw (e, follow) (read_inside _ h)
 
--- the code is to look at node `at` next, has looked at n nodes, and has gone k steps of the path, to a child before which so many are left
-pub record Going (words text path : List ℕ) (at n k left : ℕ) : Type 0 where
-  pub early : n ≤ at
-  pub on : k ≤ length path
-  same : find_path words text path ≡ looked_up n (passing words left at (λ j. follow words j (drop k path)))
+-- from node i on, so many of the k children are passed, and the next is node `at`
+pub record Passing (words : List ℕ) (i k at done : ℕ) : Type 0 where
+  pub forward : i + done ≤ at
+  same : (n : ℕ) (on : ℕ → Way) → looked_up n (passing words k i on) ≡ looked_up (n + done) (passing words (k - done) at on)
+
+module _ (words : List ℕ) (i k : ℕ) where
+  pub passing_none : Passing words i k i 0
+  passing_none = record { forward = omega arith; same = λ n on. let z : n + 0 ≡ n = omega arith in let y : k - 0 ≡ k = omega arith in rw (z, y) refl }
+
+module _ {words : List ℕ} {i k at done : ℕ} (p : Passing words i k at done) where
+  pub passing_end : done ≤ k → k ≤ done → Passes words i k (Some at)
+  unfolding passing
+  passing_end u v n on =
+      let y : k - done ≡ 0 = omega arith in
+      let z : n + done ≡ n + k = omega arith in
+      p.same n on ∙ ap (λ (c : ℕ). looked_up (n + done) (passing words c at on)) y ∙ ap (λ (m : ℕ). looked_up m (on at)) z
+
+  module _ (more : done < k) where
+    pub passing_out : length words / 4 ≤ at → Passes words i k None
+    unfolding passing looked_up
+    passing_out h n on = p.same n on ∙ of (k - done) (omega arith)
+      where
+        of : (c : ℕ) → 0 < c → looked_up (n + done) (passing words c at on) ≡ refused 15
+        of zero z = absurd (omega arith)
+        of (suc c) z = ap (looked_up (n + done)) (read_outside words _ h)
+
+    module _ {w : NodeWords} (its : Words words at w) where
+      pub passing_stop : w.span ≡ 0 → Passes words i k None
+      unfolding looked_up
+      passing_stop z n on =
+          p.same n on ∙ ap (looked_up (n + done)) (passing_stuck words (k - done) on its.within (omega arith) (sym its.spans ∙ z))
+
+      pub passing_on : (w.span ≡ 0 → ⊥) → Passing words i k (at + w.span) (done + 1)
+      unfolding looked_up
+      passing_on z =
+          record {
+            forward = omega (arith, p.forward);
+            same = λ n on.
+                let less : k - (done + 1) ≡ k - done - 1 = omega arith in
+                let count : n + (done + 1) ≡ n + done + 1 = omega arith in
+                p.same n on
+                ∙ ap (looked_up (n + done)) (passing_one words (k - done) on its.within (omega arith) (λ (e : span words at ≡ 0). z (its.spans ∙ e)))
+                ∙ rw (its.spans, less, count) refl;
+          }
+
+-- the code is to look at node `at` next, which is the last of `seen` nodes looked at, and has gone k steps of the path
+pub record Going (words text path : List ℕ) (at seen k : ℕ) : Type 0 where
+  pub some : 1 ≤ seen
+  pub early : seen ≤ at + 1
+  same : find_path words text path ≡ looked_up (seen - 1) (follow words at (drop k path))
 
 module _ (words text path : List ℕ) where
   pub too_long : longest < length text → find_path words text path ≡ refused 13
   unfolding find_path
   too_long h = rw (lt-ltb longest (length text) h)
 
-  pub going_root : length text ≤ longest → Going words text path 0 0 0 0
-  unfolding find_path passing
-  going_root h = record { early = omega arith; on = omega arith; same = rw (le-ltb longest (length text) h) }
+  pub going_root : length text ≤ longest → Going words text path 0 1 0
+  unfolding find_path
+  going_root h = record { some = omega arith; early = omega arith; same = rw (le-ltb longest (length text) h) }
 
-module _ {words text path : List ℕ} {at n k left : ℕ} (g : Going words text path at n k left) where
+module _ {words text path : List ℕ} {at seen k : ℕ} (g : Going words text path at seen k) where
   pub going_outside : length words / 4 ≤ at → find_path words text path ≡ refused 15
-  unfolding passing looked_up
-  going_outside h = g.same ∙ ap (looked_up n) (of left)
-    where
-      of : (c : ℕ) → passing words c at (λ j. follow words j (drop k path)) ≡ stops 15
-      of zero = follow_outside words (drop k path) h
-      of (suc c) = read_outside words _ h
+  unfolding looked_up
+  going_outside h = g.same ∙ ap (looked_up (seen - 1)) (follow_outside words (drop k path) h)
 
-  module _ (inside : at < length words / 4) where
-    -- children are left: node `at` is one, and w the word to step by
-    module _ (some : 0 < left) {w : ℕ} (r : w ≡ span words at) where
-      pub going_stuck : w ≡ 0 → find_path words text path ≡ refused 15
+  module _ {w : NodeWords} (its : Words words at w) where
+    pub going_found : length path ≤ k → find_path words text path ≡ found at seen
+    unfolding follow looked_up
+    going_found end =
+        let z : seen - 1 + 1 ≡ seen = omega (arith, g.some) in
+        g.same
+        ∙ ap (λ (p : List ℕ). looked_up (seen - 1) (follow words at p)) (drop_of_length-le path end)
+        ∙ ap (looked_up (seen - 1)) (read_inside words _ its.within)
+        ∙ ap (found at) z
+
+    module _ (more : k < length path) where
+      abbrev index : ℕ
+      index = get_or path k 0
+
+      onward : find_path words text path ≡ looked_up (seen - 1) (follow words at (index ∷ drop (k + 1) path))
+      onward = g.same ∙ ap (λ (p : List ℕ). looked_up (seen - 1) (follow words at p)) (rw add-one (drop-cons path k 0 more))
+
+      none_there : has_child words at index ≡ false → find_path words text path ≡ refused 16
       unfolding looked_up
-      going_stuck z = g.same ∙ ap (looked_up n) (passing_stuck words left _ inside some (sym r ∙ z))
+      none_there e = onward ∙ ap (looked_up (seen - 1)) (follow_none words _ _ its.within e)
 
-      pub going_past : (w ≡ 0 → ⊥) → Going words text path (at + w) (n + 1) k (left - 1)
-      unfolding looked_up
-      going_past z =
-          record {
-            early = omega (arith, g.early);
-            on = g.on;
-            same = rw r (g.same ∙ ap (looked_up n) (passing_one words left _ inside some (λ (e : span words at ≡ 0). z (r ∙ e))));
-          }
+      -- it is an atom
+      pub going_atom : (w.kind ≡ 0 → ⊥) → find_path words text path ≡ refused 16
+      going_atom z = none_there (rw (ne_eqb (kind words at) 0 (λ (e : kind words at ≡ 0). z (its.kinds ∙ e))))
 
-    -- none is left: node `at` is the next on the path
-    module _ (none : left ≤ 0) where
-      here : find_path words text path ≡ looked_up n (follow words at (drop k path))
-      unfolding passing
-      here = g.same ∙ ap (λ (c : ℕ). looked_up n (passing words c at (λ j. follow words j (drop k path)))) {x = left} {y = 0} (omega arith)
+      module _ (list : w.kind ≡ 0) where
+        -- it has too few children
+        pub going_none : w.first ≤ index → find_path words text path ≡ refused 16
+        going_none h = none_there (rw (sym its.kinds ∙ list, le-ltb index (first words at) (omega (arith, its.firsts, h))))
 
-      pub going_found : k ≡ length path → find_path words text path ≡ found at (n + 1)
-      unfolding follow looked_up
-      going_found e =
-          let end : length path ≤ k = omega arith in
-          here ∙ ap (λ (p : List ℕ). looked_up n (follow words at p)) (drop_of_length-le path end) ∙ ap (looked_up n) (read_inside words _ inside)
-
-      module _ (more : k < length path) where
-        onward : find_path words text path ≡ looked_up n (follow words at (get_or path k 0 ∷ drop (k + 1) path))
-        onward = here ∙ ap (λ (p : List ℕ). looked_up n (follow words at p)) (rw add-one (drop-cons path k 0 more))
-
-        none_there : has_child words at (get_or path k 0) ≡ false → find_path words text path ≡ refused 16
-        unfolding looked_up
-        none_there e = onward ∙ ap (looked_up n) (follow_none words _ _ inside e)
-
-        -- it is an atom
-        pub going_atom : eqb (kind words at) 0 ≡ false → find_path words text path ≡ refused 16
-        going_atom z = none_there (rw z)
-
-        -- it is a list, and w is the number of children that the code has read
-        module _ (z : eqb (kind words at) 0 ≡ true) {w : ℕ} (r : w ≡ first words at) where
-          pub going_none : w ≤ get_or path k 0 → find_path words text path ≡ refused 16
-          going_none h = none_there (rw (z, le-ltb (get_or path k 0) (first words at) (omega arith)))
-
-          pub going_child : get_or path k 0 < w → Going words text path (at + 1) (n + 1) (k + 1) (get_or path k 0)
+        -- r is the node behind the children before the one that the path leads to
+        module _ (h : index < w.first) where
+          reached : (r : Option ℕ) → Passes words (at + 1) index r → find_path words text path ≡ past (seen - 1 + 1) index (λ j. follow words j (drop (k + 1) path)) r
           unfolding looked_up
-          going_child h =
-              let has : has_child words at (get_or path k 0) ≡ true = rw (z, lt-ltb (get_or path k 0) (first words at) (omega arith)) in
-              record { early = omega (arith, g.early); on = omega arith; same = onward ∙ ap (looked_up n) (follow_child words _ _ inside has) }
+          reached r p =
+              onward
+              ∙ ap (looked_up (seen - 1)) (follow_child words _ _ its.within (rw (sym its.kinds ∙ list, lt-ltb index (first words at) (omega (arith, its.firsts, h)))))
+              ∙ p (seen - 1 + 1) (λ j. follow words j (drop (k + 1) path))
+
+          pub going_stop : {r : Option ℕ} → Passes words (at + 1) index r → r ≡ None → find_path words text path ≡ refused 15
+          going_stop {r} p z = reached r p ∙ ap (past (seen - 1 + 1) index (λ j. follow words j (drop (k + 1) path))) z
+
+          pub going_on : {r : Option ℕ} {j : ℕ} → Passes words (at + 1) index r → r ≡ Some j → at + 1 + index ≤ j → Going words text path j (seen + (1 + index)) (k + 1)
+          going_on {r} {j} p z f =
+              let n : seen + (1 + index) - 1 ≡ seen - 1 + 1 + index = omega (arith, g.some) in
+              record {
+                some = omega arith;
+                early = omega (arith, g.early);
+                same = rw n (reached r p ∙ ap (past (seen - 1 + 1) index (λ j. follow words j (drop (k + 1) path))) z);
+              }

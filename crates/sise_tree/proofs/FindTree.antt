@@ -1,27 +1,39 @@
 -- On a table that holds a tree, the lookup that reads only the nodes on the way answers as the one that tests the whole table: there each child's fourth
 -- word is its size, so that stepping past it leads to the next.
 -- Assumes nothing.
-use Prim.Native.Nat.{ℕ, zero, suc, ◌+◌, ◌-◌, ◌*◌, ◌/◌, ◌<◌}
+use Prim.Native.Nat.{ℕ, zero, suc, ◌+◌, ◌-◌, ◌*◌, ◌/◌, ◌≤◌, ◌<◌}
 use native.Mathlib.Omega.{arith}
 use mathlib.Core.Path.{◌≡◌, refl, sym, ap, ◌∙◌}
-use mathlib.Core.Bool.{true, false}
+use mathlib.Core.Bool.{true, false, false≢true}
 use mathlib.Core.Option.{Option, none, some}
 use mathlib.Core.List.{List, [], ◌∷◌, ◌++◌, append_assoc}
 use lib.Dec.{ltb, eqb}
 use lib.ListN.{length, drop, length-append, length-drop}
-use borrow.Author.Tests.{ltb-true, ltb-false, ne_eqb}
+use borrow.Author.Tests.{ltb-true, ltb-false, lt-ltb, le-ltb, ne_eqb}
 use Rattle.sise_util.proofs.Ranges.{split, and_first, and_second}
 use Rattle.sise_tree.specs.Tree.{Node, atom, list, Nodes, empty, ◌then◌, size, children, table_at, tables, lies, lies_all, kind, second, span, HoldsTree}
 use Rattle.sise_tree.specs.ParseTree.{longest}
-use Rattle.sise_tree.specs.Decision.{decide}
-use Rattle.sise_tree.specs.Answers.{answered, number_of}
-use Rattle.sise_tree.specs.IndexPath.{node_at, child_at, indexed, index_path}
-use Rattle.sise_tree.specs.FindPath.{passing, follow, Lookup, found, refused, looked_up, find_path, steps, with_count}
+use Rattle.sise_tree.specs.Decision.{is_some, decide}
+use Rattle.sise_tree.specs.Answers.{Answer, answered, refused_with, path_refusal, number_of}
+use Rattle.sise_tree.specs.declared.tree.PathError.{PathError}
+use Rattle.sise_tree.specs.declared.tree.PathError.TheVariants.{TextTooLong, NotATree, NoSuchNode}
+use Rattle.sise_tree.specs.IndexPath.{node_at, child_at, indexed, indexed_in, index_path}
+use Rattle.sise_tree.specs.FindPath.{passing, follow, Lookup, found, refused, looked_up, find_path, steps, with_count, found_number}
 use Rattle.sise_tree.proofs.TreeLaws.{sits_kind, length-table, size_pos, holds_words}
 use Rattle.sise_tree.proofs.DecisionLaws.{decide_sound}
 use Rattle.sise_tree.proofs.LocalLaws.{stands, skip, node_local, held, sound_decides}
-use Rattle.sise_tree.proofs.PathLaws.{node_here, no_child}
 use Rattle.sise_tree.proofs.FindLaws.{read_inside, passing_one, follow_none, follow_child}
+
+no_child : (c : Nodes) (i k : ℕ) (path : List ℕ) → children c ≤ k → child_at c i k path ≡ none
+unfolding child_at children
+no_child empty i k path h = refl
+no_child (n then c) i zero path h = absurd (omega arith)
+no_child (n then c) i (suc k) path h = no_child c (i + size n) k path (omega arith)
+
+node_here : (n : Node) (i : ℕ) → node_at n i [] ≡ some i
+unfolding node_at
+node_here (atom w p m) i = refl
+node_here (list c) i = refl
 
 -- what the full lookup finds, and the number of nodes looked at
 abbrev reached : Option ℕ → ℕ → Lookup
@@ -107,3 +119,60 @@ module _ (words text path : List ℕ) where
       of (some n) e = as_decided e ∙ ap (with_count path) h
       of none e =
           split (ltb longest (length text)) (λ y. absurd (omega (arith, ap number_of (rw (y, index_path) at h)))) (λ y. absurd (omega (arith, ap number_of (rw (y, index_path, e) at h))))
+
+-- ---- the code's answers
+
+found_index : (o : Option ℕ) (m : ℕ) {i n : ℕ} → found i n ≡ reached o m → answered i ≡ indexed o
+found_index none m z = absurd (omega (arith, ap found_number z))
+found_index (some i) m z = ap answered cc
+
+refused_index : (o : Option ℕ) (m : ℕ) (e : PathError) → refused (path_refusal e).number ≡ reached o m → Answer.refused (path_refusal e) ≡ indexed o
+refused_index none m TextTooLong z = absurd (omega (arith, ap found_number z))
+refused_index none m NotATree z = absurd (omega (arith, ap found_number z))
+refused_index none m NoSuchNode z = refl
+refused_index (some i) m TextTooLong z = absurd (omega (arith, ap found_number z))
+refused_index (some i) m NotATree z = absurd (omega (arith, ap found_number z))
+refused_index (some i) m NoSuchNode z = absurd (omega (arith, ap found_number z))
+
+module _ (words text path : List ℕ) where
+  pub too_long : longest < length text → index_path words text path ≡ refused_with 13
+  unfolding index_path
+  too_long h = rw (lt-ltb longest (length text) h)
+
+  module _ (short : length text ≤ longest) where
+    as_held : index_path words text path ≡ indexed_in (decide text words) path
+    unfolding index_path
+    as_held = rw (le-ltb longest (length text) short)
+
+    pub no_tree_lem : is_some (decide text words) ≡ false → index_path words text path ≡ refused_with 15
+    unfolding is_some
+    no_tree_lem f = as_held ∙ of (decide text words) f
+      where
+        of : (d : Option Node) → is_some d ≡ false → indexed_in d path ≡ refused_with 15
+        of none h = refl
+        of (some n) h = absurd (false≢true (sym h))
+
+    module _ (tree : is_some (decide text words) ≡ true) where
+      -- both lookups of it
+      record Both : Type 0 where
+        node : Option ℕ
+        count : ℕ
+        full : index_path words text path ≡ indexed node
+        way : find_path words text path ≡ reached node count
+
+      both : Both
+      unfolding find_path
+      both =
+          let (n, e, h) = held text words tree in
+          record {
+            node = node_at n 0 path;
+            count = 0 + (1 + steps path);
+            full = as_held ∙ ap (λ (d : Option Node). indexed_in d path) e;
+            way = rw (le-ltb longest (length text) short) (follows text words path (second words 0) n 0 0 (drop (4 * size n) words) (holds_words h.holds) h.holds.in_text);
+          }
+
+      pub index_found : {i n : ℕ} → found i n ≡ find_path words text path → answered i ≡ index_path words text path
+      index_found z = found_index both.node both.count (z ∙ both.way) ∙ sym both.full
+
+      pub index_refused : (e : PathError) → refused (path_refusal e).number ≡ find_path words text path → Answer.refused (path_refusal e) ≡ index_path words text path
+      index_refused e z = refused_index both.node both.count e (z ∙ both.way) ∙ sym both.full

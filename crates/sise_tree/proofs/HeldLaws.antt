@@ -1,6 +1,6 @@
 -- What a node says of what a table holds, by the tests of the code; and the whole by its nodes.
 -- Assumes nothing.
-use Rattle.std.specs.Prelude.{is_some, Option, Some, None}
+use Rattle.std.specs.Prelude.{is_some}
 use Prim.Native.Nat.{ℕ, ◌+◌, ◌/◌, ◌≤◌, ◌<◌}
 use native.Mathlib.Omega.{arith}
 use mathlib.Core.Path.{◌≡◌, refl, sym, ap, ◌∙◌}
@@ -13,9 +13,7 @@ use denote.Enum.Declared.{tag_of}
 use lib.Dec.{ltb}
 use lib.ListN.{length, drop}
 use borrow.Author.Tests.{le-leb, lt-leb, eq-eqb, ne_eqb, ltb-true, ltb-false}
-use Rattle.sise_util.specs.Atom.{kind_number, kind_prefix}
-use Rattle.sise_util.specs.declared.util.AtomKind.{AtomKind}
-use Rattle.sise_util.specs.declared.util.AtomKind.TheVariants.{Plain, String, Mixed}
+use Rattle.sise_util.specs.Atom.{kind_prefix}
 use Rattle.sise_util.proofs.Ranges.{split, and_first, and_second}
 use Rattle.sise_util.proofs.KindLaws.{kind_prefix_lem}
 use Rattle.sise_tree.specs.Tree.{Node, atoms_hold, kind, first, second, span, fits_kind, sits, fills_in, good, HoldsTree}
@@ -28,39 +26,6 @@ use Rattle.sise_tree.specs.contracts.tree.Held as held
 use Rattle.sise_tree.proofs.LocalSteps.{good_outside, good_list, good_atom, good_long}
 use Rattle.sise_tree.proofs.LocalLaws as local
 use Rattle.sise_tree.proofs.AtomsHold.{tree_all, tree_fails}
-
--- ---- an atom's first word, by its kind's number
-
-module _ (k : ℕ) where
-  pub kind_same : (a : Option AtomKind) {n : ℕ} → n ≡ kind_number a → (n ≡ 0 → ⊥) → k ≡ n → Tree ≡ held_if (fits_kind a k) (is_some a)
-  kind_same (Some Plain) e z q = rw (eq-eqb k 1 (q ∙ e))
-  kind_same (Some String) e z q = rw (eq-eqb k 2 (q ∙ e))
-  kind_same (Some Mixed) e z q = rw (eq-eqb k 3 (q ∙ e))
-  kind_same None e z q = absurd (z e)
-
-  pub kind_other : (a : Option AtomKind) {n : ℕ} → n ≡ kind_number a → (n ≡ 0 → ⊥) → (k ≡ n → ⊥) → NotATree ≡ held_if (fits_kind a k) (is_some a)
-  kind_other (Some Plain) e z q = rw (ne_eqb k 1 (λ (y : k ≡ 1). q (y ∙ sym e)))
-  kind_other (Some String) e z q = rw (ne_eqb k 2 (λ (y : k ≡ 2). q (y ∙ sym e)))
-  kind_other (Some Mixed) e z q = rw (ne_eqb k 3 (λ (y : k ≡ 3). q (y ∙ sym e)))
-  kind_other None e z q = absurd (z e)
-
-  pub none_zero : (a : Option AtomKind) {n : ℕ} → n ≡ kind_number a → n ≡ 0 → k ≡ 0 → NotATree ≡ held_if (fits_kind a k) (is_some a)
-  none_zero (Some Plain) e z q = absurd (omega arith)
-  none_zero (Some String) e z q = absurd (omega arith)
-  none_zero (Some Mixed) e z q = absurd (omega arith)
-  none_zero None e z q = rw (lt-leb 1 k (omega arith))
-
-  pub none_large : (a : Option AtomKind) {n : ℕ} → n ≡ kind_number a → n ≡ 0 → (k ≡ 0 → ⊥) → 3 < k → NotATree ≡ held_if (fits_kind a k) (is_some a)
-  none_large (Some Plain) e z f q = absurd (omega arith)
-  none_large (Some String) e z f q = absurd (omega arith)
-  none_large (Some Mixed) e z f q = absurd (omega arith)
-  none_large None e z f q = rw (le-leb 1 k (omega arith), lt-leb k 3 q)
-
-  pub none_fits : (a : Option AtomKind) {n : ℕ} → n ≡ kind_number a → n ≡ 0 → (k ≡ 0 → ⊥) → k ≤ 3 → NoAtom ≡ held_if (fits_kind a k) (is_some a)
-  none_fits (Some Plain) e z f q = absurd (omega arith)
-  none_fits (Some String) e z f q = absurd (omega arith)
-  none_fits (Some Mixed) e z f q = absurd (omega arith)
-  none_fits None e z f q = rw (le-leb 1 k (omega arith), le-leb k 3 q)
 
 -- ---- the first node
 

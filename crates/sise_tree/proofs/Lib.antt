@@ -1,3 +1,4 @@
+pub mod NodeLaws
 pub mod TreeLaws
 pub mod DecisionLaws
 pub mod Rows
@@ -7,7 +8,6 @@ pub mod Shifts
 pub mod AtomsHold
 pub mod HeldLaws
 pub mod WalkLaws
-pub mod PathLaws
 pub mod FindLaws
 pub mod FindTree
 pub mod FindReads

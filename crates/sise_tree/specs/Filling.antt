@@ -104,6 +104,7 @@ pub record Closable (words : List ℕ) (next parent : ℕ) (f : Frames) (c : Nod
   pub shown : words ≡ render (f ▹ c) ++ rest
   pub nexts : next ≡ filled (f ▹ c)
   pub parents : parent ≡ innermost (f ▹ c)
+  pub small : next < 2 ^ 32
 
 abbrev pub CanClose : List ℕ → ℕ → ℕ → Type 0
 CanClose words next parent = (f : Frames) × (c : Nodes) × (rest : List ℕ) × Closable words next parent f c rest
@@ -117,9 +118,6 @@ pub record Shows (w₀ : List ℕ) (s : Stage) (words : List ℕ) (m : Mark) : T
   pub shown : words ≡ render_in s ++ drop (4 * filled_in s) w₀
   pub nexts : m.next ≡ filled_in s
   pub parents : m.parent ≡ innermost_in s
-
-abbrev pub mark : ℕ → ℕ → Mark
-mark i p = record { next = i; parent = p }
 
 -- an atom ends at e
 abbrev pub EndsAt : ℕ → ParsedItem → Type 0
@@ -143,12 +141,11 @@ abbrev pub Turns : List ℕ → List ℕ → Mark → ParsedItem → ℕ → Mar
 Turns text words m i e r now = (w₀ : List ℕ) (f : Frames) → Shows w₀ (inside f) words m → Fits text (length words) f i e → Shows w₀ (turn text f i) now r
 
 -- an atom's turn over a text where its kind has that number
-abbrev pub CanPut : List ℕ → ℕ → ℕ → ℕ → ℕ → ℕ → Type 0
-CanPut words next parent k p e = (text : List ℕ) × (k ≡ kind_at text p (e - p)) × CanTurn text words (mark next parent) (Atom p (e - p)) e
+abbrev pub CanPut : List ℕ → Mark → ℕ → ℕ → ℕ → Type 0
+CanPut words m k p e = (text : List ℕ) × (k ≡ kind_at text p (e - p)) × CanTurn text words m (Atom p (e - p)) e
 
-abbrev pub Puts : List ℕ → ℕ → ℕ → ℕ → ℕ → ℕ → List ℕ → Type 0
-Puts words next parent k p e now =
-    (text : List ℕ) → k ≡ kind_at text p (e - p) → Turns text words (mark next parent) (Atom p (e - p)) e (mark (next + 1) parent) now
+abbrev pub Puts : List ℕ → Mark → ℕ → ℕ → ℕ → Mark → List ℕ → Type 0
+Puts words m k p e r now = (text : List ℕ) → k ≡ kind_at text p (e - p) → Turns text words m (Atom p (e - p)) e r now
 
 -- a list's start, wherever it stands
 abbrev pub CanStart : List ℕ → Mark → Type 0

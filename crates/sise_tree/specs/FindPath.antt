@@ -1,6 +1,6 @@
 -- What find_path answers (document 02, 2.8).
 -- Assumes nothing.
-use Rattle.std.specs.Prelude.{ℕ, Result, Ok, Err, zero, suc, ◌+◌, ◌/◌, ◌≡◌, Bool, cond, ◌&&◌, List, [], ◌∷◌, ltb, eqb, length}
+use Rattle.std.specs.Prelude.{ℕ, Option, Some, None, Result, Ok, Err, zero, suc, ◌+◌, ◌/◌, ◌≡◌, Bool, cond, ◌&&◌, List, [], ◌∷◌, ltb, eqb, length}
 use Rattle.sise_tree.specs.Tree.{kind, first, span}
 use Rattle.sise_tree.specs.ParseTree.{longest}
 use Rattle.sise_tree.specs.Answers.{Answer, answered, path_refusal}
@@ -43,6 +43,14 @@ unfoldable pub looked_up : ℕ → Way → Lookup
 looked_up n (looks i w) = looked_up (n + 1) w
 looked_up n (finds i) = found i n
 looked_up n (stops r) = refused r
+
+-- past so many children from node i on, wherever the way goes on: n nodes were looked at before them
+abbrev pub past : ℕ → ℕ → (ℕ → Way) → Option ℕ → Lookup
+past n k on (Some j) = looked_up (n + k) (on j)
+past n k on None = refused 15
+
+abbrev pub Passes : List ℕ → ℕ → ℕ → Option ℕ → Type 0
+Passes words i k r = (n : ℕ) (on : ℕ → Way) → looked_up n (passing words k i on) ≡ past n k on r
 
 -- "13 comes first"; then "the root"
 unfoldable pub find_path : List ℕ → List ℕ → List ℕ → Lookup

@@ -1,4 +1,5 @@
 pub mod Tree
+pub mod NodeWords
 pub mod Decision
 pub mod Held
 pub mod Answers

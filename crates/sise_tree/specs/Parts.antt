@@ -1,8 +1,8 @@
 -- What the private functions of the trees do.
 -- Assumes nothing.
-use Rattle.std.specs.Prelude.{ℕ, zero, suc, ◌+◌, ◌-◌, ◌/◌, ◌<◌, ◌≡◌, Bool, true, ◌&&◌, cond, List, ltb, eqb, length, drop}
+use Rattle.std.specs.Prelude.{ℕ, ◌+◌, ◌-◌, ◌/◌, ◌≡◌, Bool, true, ◌&&◌, cond, List, ltb, eqb, length, drop}
 use Rattle.sise_util.specs.Atom.{is_atom_prefix}
-use Rattle.sise_tree.specs.Tree.{kind, first, second, span, fills_in, good}
+use Rattle.sise_tree.specs.Tree.{kind, first, second, fills_in, good}
 
 -- from node i on, so many children of a list, whichever it is, fill it up to node e exactly if the last of them do, after r of them with the span 1
 abbrev pub SameFrom : List ℕ → ℕ → ℕ → ℕ → ℕ → Type 0
@@ -15,16 +15,3 @@ good_in text words i = ltb i (length words / 4) && good text words i
 -- node i, if an atom, is one
 unfoldable pub atom_holds_at : List ℕ → List ℕ → ℕ → Bool
 atom_holds_at text words i = cond (eqb (kind words i) 0) true (is_atom_prefix (drop (first words i) text) (second words i))
-
--- the index of the node that comes after so many nodes, from node i on
-unfoldable pub stepped : List ℕ → ℕ → ℕ → ℕ
-stepped words zero i = i
-stepped words (suc k) i = stepped words k (i + span words i)
-
--- from node i on there are more than k nodes, children of one list, whose spans end in the table
-pub record MoreThan (words : List ℕ) (k i : ℕ) : Type 0 where
-  pub parent : ℕ
-  pub count : ℕ
-  pub end : ℕ
-  pub below : k < count
-  pub filled : fills_in words parent count i end ≡ true

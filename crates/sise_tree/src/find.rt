@@ -1,8 +1,8 @@
 // A node looked up by its path alone: only the nodes on the way are read.
-ghost use Rattle.std.specs.Prelude.{◌≡◌};
-ghost use Rattle.sise_tree.specs.FindPath.{find_path, found_as};
+ghost use Rattle.std.specs.Prelude.{◌≡◌, ◌≤◌, ◌+◌, IfSome};
+ghost use Rattle.sise_tree.specs.FindPath.{find_path, found_as, Passes};
 
-use crate::tree::{LONGEST, PathError, TreeTable, is_list, word};
+use crate::tree::{LONGEST, PathError, TreeTable, wide};
 
 // What find_path answers: the node's index, and the number of nodes looked at.
 #[derive(Clone, Copy, Debug, PartialEq, Eq)]
@@ -12,48 +12,42 @@ pub struct Found {
 }
 
 impl<'a> TreeTable<'a> {
-    // The node at the end of the path, as index_path finds it where the table holds a tree, but the table is not tested: each turn looks at one node, the root
-    // and then at each list its children up to the wanted one, and takes its words as they stand. The loop counts by hand: a turn steps into a list or past a
-    // child.
+    // The node behind so many children, of which the first is node `first`, by their spans as they stand: none where a child is not in the table, or has the
+    // span 0.
+    fn passed(self, first: usize, children: u64) -> Option<usize>
+        ensures same { Passes self.entry.table.now first children result }
+        ensures forward { IfSome result (λ j. first + children ≤ j) }
+    {
+        let mut at = first;
+        for _ in 0..children {
+            let span = self.node(at)?.span;
+            if span == 0 {
+                return None;
+            }
+            at += wide(span);
+        }
+        Some(at)
+    }
+
+    // The node at the end of the path, as index_path finds it where the table holds a tree, but the table is not tested: the root is looked at, and at each
+    // list its children up to the wanted one, and their words are taken as they stand.
     pub fn find_path(self, path: &[u64]) -> Result<Found, PathError>
         ensures { found_as result ≡ find_path self.entry.table.now self.entry.text.now path.now }
     {
-        let table = self.table;
         if self.text.len() > LONGEST {
             return Err(PathError::TextTooLong);
         }
-        let nodes = table.len() / 4;
         let mut at = 0;
-        let mut seen = 0;
-        let mut k = 0;
-        // How many children come before the one that the path leads to.
-        let mut left: u64 = 0;
-        loop {
-            if at >= nodes {
-                return Err(PathError::NotATree);
+        let mut seen = 1;
+        for &index in path {
+            let list = self.node(at).ok_or(PathError::NotATree)?;
+            if list.kind != 0 || index >= list.first as u64 {
+                return Err(PathError::NoSuchNode);
             }
-            seen += 1;
-            if left > 0 {
-                let span = word(table, at, 3);
-                if span == 0 {
-                    return Err(PathError::NotATree);
-                }
-                at += span;
-                left -= 1;
-            } else {
-                if k == path.len() {
-                    return Ok(Found { index: at, seen });
-                }
-                if !is_list(table, at) {
-                    return Err(PathError::NoSuchNode);
-                }
-                left = path[k];
-                if left >= word(table, at, 1) as u64 {
-                    return Err(PathError::NoSuchNode);
-                }
-                at += 1;
-                k += 1;
-            }
+            at = self.passed(at + 1, index).ok_or(PathError::NotATree)?;
+            seen += 1 + index as usize;
         }
+        self.node(at).ok_or(PathError::NotATree)?;
+        Ok(Found { index: at, seen })
     }
 }

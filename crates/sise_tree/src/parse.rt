@@ -4,9 +4,9 @@ ghost use Rattle.sise_tree.specs.Tree.{kind_at};
 ghost use Rattle.sise_tree.specs.Answers.{tree_refusal};
 ghost use Rattle.sise_tree.specs.declared.parse.TreeError.TheVariants.{Refused};
 ghost use Rattle.sise_tree.specs.ParseTree.{read_node, parse_tree, DoesParse};
-ghost use Rattle.sise_tree.specs.Filling.{DoesCount, mark, put_at, CanAttach, Attaches, CanClose, Closes, CanPut, Puts, CanTurn, Turns, CanStart, Starts, CanFill, DoesFill};
+ghost use Rattle.sise_tree.specs.Filling.{DoesCount, put_at, CanAttach, Attaches, CanClose, Closes, CanPut, Puts, CanTurn, Turns, CanStart, Starts, CanFill, DoesFill};
 
-use crate::tree::{LONGEST, wide};
+use crate::tree::{LONGEST, NodeWords, wide};
 use sise_parser::{ParseError, ParsedItem, Reader, Refusal};
 use sise_util::{check_atom_prefix, kind_number};
 
@@ -64,7 +64,8 @@ pub struct TreeRead {
     pub answer: Result<usize, TreeError>,
 }
 
-// Reads the node that is due and counts its nodes.
+// Reads the node that is due and counts its nodes. The loop asks for items until one ends the node, with the record from turn to turn; there is no sequence to
+// go over. That of fill_nodes does too, but it keeps other things from turn to turn, and ends by another test.
 pub(crate) fn count_nodes(text: &[u8], reader: Reader) -> TreeRead
     ensures { DoesCount (read_node text.now reader) result }
 {
@@ -76,7 +77,7 @@ pub(crate) fn count_nodes(text: &[u8], reader: Reader) -> TreeRead
         r = next.reader;
         let item = match next.answer {
             Ok(item) => item,
-            Err(error) => break Err(TreeError::Refused(error)),
+            Err(error) => break Err(error.into()),
         };
         match item {
             ParsedItem::Atom { .. } => {
@@ -103,48 +104,15 @@ pub(crate) fn count_nodes(text: &[u8], reader: Reader) -> TreeRead
     TreeRead { reader: r, answer }
 }
 
-// Where the filling stands: the index of the next node, and that of the innermost open list. Where none is open, both are 0: the root is its own parent, at
-// the distance 0.
-#[derive(Clone, Copy)]
-struct Mark {
-    next: u32,
-    parent: u32,
-}
-
-// Node `i`'s words become these.
-fn put(table: &mut [u32], i: usize, kind: u32, first: u32, second: u32, span: u32)
+// Node `i`'s words become these: one by one, since a slice to copy would have to be made of them first.
+fn put(table: &mut [u32], i: usize, node: NodeWords)
     requires { i < length table.old / 4 }
-    ensures { table.new ≡ put_at table.old i kind first second span }
+    ensures { table.new ≡ put_at table.old i node.kind node.first node.second node.span }
 {
-    table[4 * i] = kind;
-    table[4 * i + 1] = first;
-    table[4 * i + 2] = second;
-    table[4 * i + 3] = span;
-}
-
-// The list `parent` has one child more, node `child`; the root is no child.
-fn count_child(table: &mut [u32], parent: u32, child: u32)
-    requires { CanAttach table.old parent child }
-    ensures { Attaches table.old parent child table.new }
-{
-    if child == parent {
-        return;
-    }
-    let i = wide(parent);
-    let count = table[4 * i + 1];
-    table[4 * i + 1] = count + 1;
-}
-
-// The list `parent` ends before node `next`. Its own parent, to which its third word leads back, is handed back.
-fn close_list(table: &mut [u32], next: u32, parent: u32) -> u32
-    requires { CanClose table.old next parent }
-    ensures { Closes table.old next parent result table.new }
-{
-    let i = wide(parent);
-    let outer = parent - table[4 * i + 2];
-    table[4 * i + 3] = next - parent;
-    count_child(table, outer, parent);
-    outer
+    table[4 * i] = node.kind;
+    table[4 * i + 1] = node.first;
+    table[4 * i + 2] = node.second;
+    table[4 * i + 3] = node.span;
 }
 
 // The first word of the atom from `pos` to `end`.
@@ -155,51 +123,94 @@ fn kind_at(text: &[u8], pos: usize, end: usize) -> u32
     kind_number(check_atom_prefix(&text[pos..], end - pos))
 }
 
-// An atom from `pos` to `end` is written with its kind, and counted as a child.
-fn put_atom(table: &mut [u32], next: u32, parent: u32, kind: u32, pos: usize, end: usize)
-    requires { CanPut table.old next parent kind pos end }
-    ensures { Puts table.old next parent kind pos end table.new }
-{
-    let len = end - pos;
-    put(table, wide(next), kind, pos as u32, len as u32, 1);
-    count_child(table, parent, next);
+// Where the filling stands: the index of the next node, and that of the innermost open list. Where none is open, both are 0: by document 02 the root has the
+// distance 0, and so is its own parent, and a number does where an Option would be asked at each node.
+#[derive(Clone, Copy)]
+struct Mark {
+    next: u32,
+    parent: u32,
 }
 
-// A list that begins is written, with the distance to its parent, which does not change.
-fn put_start(table: &mut [u32], next: u32, parent: u32)
-    requires { CanStart table.old (mark next parent) }
-    ensures { Starts table.old (mark next parent) (mark (next + 1) next) table.new }
-{
-    put(table, wide(next), 0, 0, next - parent, 0);
-}
+impl Mark {
+    // The list `parent` has one child more, the node `next`; the root is no child.
+    fn count_child(self, table: &mut [u32])
+        requires { CanAttach table.old self.parent self.next }
+        ensures { Attaches table.old self.parent self.next table.new }
+    {
+        if self.next == self.parent {
+            return;
+        }
+        let i = wide(self.parent);
+        let count = table[4 * i + 1];
+        table[4 * i + 1] = count + 1;
+    }
 
-// An item that ends at `end` is written. An atom's length is worked out from it, since place and length, read together where item_ahead wrote them one by
-// one, would cost more.
-fn put_item(text: &[u8], table: &mut [u32], mark: Mark, item: ParsedItem, end: usize) -> Mark
-    requires { CanTurn text.now table.old mark item end }
-    ensures { Turns text.now table.old mark item end result table.new }
-{
-    let next = mark.next;
-    let parent = mark.parent;
-    match item {
-        ParsedItem::Atom { pos, .. } => {
-            let kind = kind_at(text, pos, end);
-            put_atom(table, next, parent, kind, pos, end);
-            Mark {
-                next: next + 1,
-                parent,
-            }
+    // The list `parent` ends before the node `next`. Its own parent, to which its third word leads back, is the innermost open list then, and counts it.
+    fn close_list(self, table: &mut [u32]) -> Mark
+        requires { CanClose table.old self.next self.parent }
+        ensures same { result.next ≡ self.next }
+        ensures closes { Closes table.old self.next self.parent result.parent table.new }
+    {
+        let i = wide(self.parent);
+        let parent = self.parent - table[4 * i + 2];
+        table[4 * i + 3] = self.next - self.parent;
+        let list = Mark {
+            next: self.parent,
+            parent,
+        };
+        list.count_child(table);
+        Mark { parent, ..self }
+    }
+
+    // An atom from `pos` to `end` is written with its kind, and counted as a child.
+    fn put_atom(self, table: &mut [u32], kind: u32, pos: usize, end: usize) -> Mark
+        requires { CanPut table.old self kind pos end }
+        ensures { Puts table.old self kind pos end result table.new }
+    {
+        let node = NodeWords {
+            kind,
+            first: pos as u32,
+            second: (end - pos) as u32,
+            span: 1,
+        };
+        put(table, wide(self.next), node);
+        self.count_child(table);
+        Mark {
+            next: self.next + 1,
+            ..self
         }
-        ParsedItem::ListStart { .. } => {
-            put_start(table, next, parent);
-            Mark {
-                next: next + 1,
-                parent: next,
-            }
+    }
+
+    // A list that begins is written, with the distance to its parent, which does not change.
+    fn put_start(self, table: &mut [u32]) -> Mark
+        requires { CanStart table.old self }
+        ensures { Starts table.old self result table.new }
+    {
+        let node = NodeWords {
+            kind: 0,
+            first: 0,
+            second: self.next - self.parent,
+            span: 0,
+        };
+        put(table, wide(self.next), node);
+        Mark {
+            next: self.next + 1,
+            parent: self.next,
         }
-        ParsedItem::ListEnd { .. } => {
-            let parent = close_list(table, next, parent);
-            Mark { next, parent }
+    }
+
+    // The item that next_item gave is written; `end` is where the reader stands behind it, from which an atom's length is worked out.
+    fn put_item(self, text: &[u8], table: &mut [u32], item: ParsedItem, end: usize) -> Mark
+        requires { CanTurn text.now table.old self item end }
+        ensures { Turns text.now table.old self item end result table.new }
+    {
+        match item {
+            ParsedItem::Atom { pos, .. } => {
+                let kind = kind_at(text, pos, end);
+                self.put_atom(table, kind, pos, end)
+            }
+            ParsedItem::ListStart { .. } => self.put_start(table),
+            ParsedItem::ListEnd { .. } => self.close_list(table),
         }
     }
 }
@@ -217,7 +228,7 @@ pub(crate) fn fill_nodes(text: &[u8], reader: Reader, table: &mut [u32])
         let Ok(item) = next.answer else {
             return;
         };
-        mark = put_item(text, table, mark, item, r.position);
+        mark = mark.put_item(text, table, item, r.position);
         if r.lists == reader.lists {
             return;
         }

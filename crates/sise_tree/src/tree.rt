@@ -1,7 +1,8 @@
 // Tables: whether one holds a tree, and the node at the end of a path.
 ghost use Rattle.std.specs.Prelude.{◌≡◌, ◌&&◌, ◌+◌, ◌-◌, ◌*◌, ◌/◌, ◌^◌, ◌≤◌, ◌<◌, eqb, length, get_or, is_some};
 ghost use Rattle.sise_tree.specs.Tree.{kind, linked, fills_in, fits_kind};
-ghost use Rattle.sise_tree.specs.Parts.{SameFrom, good_in, atom_holds_at, stepped, MoreThan};
+ghost use Rattle.sise_tree.specs.Parts.{SameFrom, good_in, atom_holds_at};
+ghost use Rattle.sise_tree.specs.NodeWords.{node_words};
 ghost use Rattle.sise_tree.specs.Decision.{decide};
 ghost use Rattle.sise_tree.specs.Held.{held_if, held_as, is_tree};
 ghost use Rattle.sise_tree.specs.IndexPath.{index_path};
@@ -13,7 +14,7 @@ use sise_util::{AtomKind, check_atom_prefix, kind_number};
 // The longest text of a tree call.
 pub const LONGEST: usize = 16777216;
 
-// What a table holds over a text.
+// What a table holds over a text. Three answers, and no Option or Result of two: one caller tells the last from the others, another the first.
 #[derive(Clone, Copy, Debug, PartialEq, Eq)]
 pub enum Held {
     // A tree, and each atom of it is one.
@@ -55,6 +56,16 @@ pub struct TreeTable<'a> {
     pub text: &'a [u8],
 }
 
+// A node's four words: of a list 0, its number of children, the distance back to its parent and its span; of an atom its kind, its place, its length and 1.
+// Four words and no enum of the two, since document 01 lays a table out so: there is no heap, and C reads the words.
+#[derive(Clone, Copy, Debug, PartialEq, Eq)]
+pub struct NodeWords {
+    pub kind: u32,
+    pub first: u32,
+    pub second: u32,
+    pub span: u32,
+}
+
 pub fn wide(x: u32) -> usize
     ensures same { result ≡ x }
     ensures small { result < 2 ^ 32 }
@@ -87,17 +98,13 @@ fn singles(table: &[u32], left: usize, at: usize, end: usize) -> usize
     ensures few { result ≤ left }
     ensures within { at + result ≤ end }
 {
-    let mut run = 0;
-    while run < left && at + run < end {
-        if is_list(table, at + run) {
+    let most = left.min(end - at);
+    for run in 0..most {
+        if is_list(table, at + run) || word(table, at + run, 3) != 1 {
             return run;
         }
-        if word(table, at + run, 3) != 1 {
-            return run;
-        }
-        run += 1;
     }
-    run
+    most
 }
 
 // Whether node `i`, a child of the first node, has the distance to it as its third word, if it is a list.
@@ -112,7 +119,7 @@ fn is_linked(table: &[u32], i: usize) -> bool
 }
 
 // Whether the spans of so many children of the first node, which stand after it, end exactly at node `end`, which is in the table or just past it, and each
-// list among them has its distance.
+// list among them has its distance. A turn passes a run of atoms at once, or a list by its span: the words are no sequence of children to go over.
 fn fills(table: &[u32], children: usize, end: usize) -> bool
     ensures { result ≡ fills_in table.now 0 children 1 end }
 {
@@ -144,64 +151,56 @@ fn fills(table: &[u32], children: usize, end: usize) -> bool
     at == end
 }
 
-// Whether an atom's first word may be `kind`, where its bytes are `atom`: the number of that kind, and each of the three where they are no atom.
+// What a table holds that is one atom with the first word `kind` over these bytes: a tree if the word is the number of their kind; where they are no atom, each
+// of the three numbers passes.
 fn kind_holds(kind: u32, atom: Option<AtomKind>) -> Held
     ensures { result ≡ held_if (fits_kind atom kind) (is_some atom) }
 {
-    let number = kind_number(atom);
-    if number != 0 {
-        if kind == number {
-            return Held::Tree;
-        }
-        return Held::NotATree;
+    match atom {
+        Some(own) if kind == own as u32 => Held::Tree,
+        None if 1 <= kind && kind <= 3 => Held::NoAtom,
+        _ => Held::NotATree,
     }
-    if kind == 0 {
-        return Held::NotATree;
-    }
-    if kind > 3 {
-        return Held::NotATree;
-    }
-    Held::NoAtom
-}
-
-// The node that comes after `index` nodes, from node `first` on.
-fn child(table: &[u32], first: usize, index: u64) -> usize
-    requires { MoreThan table.now index first }
-    ensures { result ≡ stepped table.now index first }
-{
-    let mut at = first;
-    for _step in 0..index {
-        at += word(table, at, 3);
-    }
-    at
 }
 
 impl<'a> TreeTable<'a> {
+    // Node `i`'s words, where the table has them all.
+    #[inline(always)]
+    pub fn node(self, i: usize) -> Option<NodeWords>
+        ensures { result ≡ node_words self.entry.table.now i }
+    {
+        let table = self.table;
+        if i >= table.len() / 4 {
+            return None;
+        }
+        Some(NodeWords {
+            kind: table[4 * i],
+            first: table[4 * i + 1],
+            second: table[4 * i + 2],
+            span: table[4 * i + 3],
+        })
+    }
+
     // What the first node is: it is in the table and has one of the two forms, and an atom's bytes are one, or not. A list's third word is looked at where its
     // parent steps over it.
     fn node_holds(self) -> Held
         ensures { result ≡ held_if (good_in self.entry.text.now self.entry.table.now 0) (atom_holds_at self.entry.text.now self.entry.table.now 0) }
     {
-        let table = self.table;
-        if table.len() < 4 {
+        let Some(node) = self.node(0) else {
             return Held::NotATree;
-        }
-        let first = word(table, 0, 1);
-        let second = word(table, 0, 2);
-        let span = word(table, 0, 3);
-        if table[0] == 0 {
-            if fills(table, first, span) {
+        };
+        let first = wide(node.first);
+        if node.kind == 0 {
+            if fills(self.table, first, wide(node.span)) {
                 return Held::Tree;
             }
             return Held::NotATree;
         }
-        if span != 1 {
+        let len = wide(node.second);
+        if node.span != 1 || self.text.len() < first + len {
             return Held::NotATree;
         }
-        if self.text.len() < first + second {
-            return Held::NotATree;
-        }
-        kind_holds(table[0], check_atom_prefix(&self.text[first..], second))
+        kind_holds(node.kind, check_atom_prefix(&self.text[first..], len))
     }
 
     // What the table holds over the text. Each node is tested by itself, as the first of the part of the table from it on, which is enough
@@ -210,22 +209,17 @@ impl<'a> TreeTable<'a> {
     pub fn holds_tree(self) -> Held
         ensures { result ≡ held_as self.entry.text.now (decide self.entry.text.now self.entry.table.now) }
     {
-        let table = self.table;
-        let nodes = table.len() / 4;
-        if nodes == 0 {
+        let Some(root) = self.node(0) else {
             return Held::NotATree;
-        }
-        let end = word(table, 0, 3);
-        if end == 0 {
-            return Held::NotATree;
-        }
-        if end > nodes {
+        };
+        let end = wide(root.span);
+        if end == 0 || end > self.table.len() / 4 {
             return Held::NotATree;
         }
         let mut all = true;
         for i in 0..end {
             let part = TreeTable {
-                table: &table[4 * i..],
+                table: &self.table[4 * i..],
                 text: self.text,
             };
             let held = part.node_holds();
@@ -241,23 +235,13 @@ impl<'a> TreeTable<'a> {
     pub fn index_path(self, path: &[u64]) -> Result<usize, PathError>
         ensures { indexed_as result ≡ index_path self.entry.table.now self.entry.text.now path.now }
     {
-        let table = self.table;
         if self.text.len() > LONGEST {
             return Err(PathError::TextTooLong);
         }
         if let Held::NotATree = self.holds_tree() {
             return Err(PathError::NotATree);
         }
-        let mut at = 0;
-        for &index in path {
-            if table[4 * at] != 0 {
-                return Err(PathError::NoSuchNode);
-            }
-            if index >= word(table, at, 1) as u64 {
-                return Err(PathError::NoSuchNode);
-            }
-            at = child(table, at + 1, index);
-        }
-        Ok(at)
+        let found = self.find_path(path)?;
+        Ok(found.index)
     }
 }

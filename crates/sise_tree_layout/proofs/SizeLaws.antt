@@ -19,7 +19,7 @@ use Rattle.sise_tree.specs.Answers.{Answer, answered, refused, refused_with}
 use Rattle.sise_tree_writer.specs.SerializeTree.{Writes, refuse, write_tree, serialize_tree, DoesWrite}
 use Rattle.sise_tree_writer.specs.Writing.{write_text, IsWritten}
 use Rattle.sise_tree_writer.specs.Sizes.{Enquiry, adds, refuses, added, enquiry_by, enquiry, same, commit, commit_tree, commit_text, MeasuresTree, MeasuresText, CommitsTree, CommitsText}
-use Rattle.sise_tree_writer.specs.declared.serialize.TreeWrote.{TreeWrote}
+use Rattle.sise_tree_writer.specs.Answers.{TreeWrote}
 use Rattle.sise_tree_writer.specs.declared.serialize.WriteTreeError.{WriteTreeError}
 use Rattle.sise_tree_writer.specs.declared.size.TreeSize.{TreeSize}
 use Rattle.std.specs.Prelude.{Result}

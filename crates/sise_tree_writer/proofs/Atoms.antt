@@ -1,6 +1,6 @@
 -- The nodes of a table that was checked: each is in the table, and each atom is one, in the text.
 -- Assumes nothing.
-use Prim.Native.Nat.{ℕ, ◌+◌, ◌<◌}
+use Prim.Native.Nat.{ℕ, ◌+◌, ◌*◌, ◌≤◌, ◌<◌}
 use native.Mathlib.Omega.{arith}
 use mathlib.Core.Path.{◌≡◌, refl, sym, ◌∙◌}
 use mathlib.Core.Bool.{true}
@@ -17,7 +17,6 @@ use Rattle.sise_tree.proofs.TreeLaws.{anded, size_pos}
 use Rattle.sise_tree.proofs.LocalLaws.{held}
 use Rattle.sise_tree.proofs.AtomsHold.{at_atom, tree_each}
 use Rattle.sise_tree_writer.specs.Writing.{Checked}
-use Rattle.sise_tree_writer.specs.Walking.{AtomIn}
 use Rattle.sise_tree_writer.proofs.CallLaws.{checked_atom}
 
 module _ (text words : List ℕ) where
@@ -25,16 +24,16 @@ module _ (text words : List ℕ) where
   pub root_there : is_some (decide text words) ≡ true → 3 < length words
   root_there h = let (n, d, i) = held text words h in omega (arith, i.fits, size_pos n)
 
-  -- a node of the tree that is no list is an atom, in the table and in the text
-  pub atom_in : is_some (decide text words) ≡ true → (k : ℕ) → k < span words 0 → (kind words k ≡ 0 → ⊥) → AtomIn text words k
+  -- a node of the tree is in the table, and if it is no list its bytes are in the text
+  pub node_there : is_some (decide text words) ≡ true → (k : ℕ) → k < span words 0 → 4 * (k + 1) ≤ length words
+  node_there h k o = let (n, d, i) = held text words h in omega (arith, i.fits, i.spans)
+
+  pub atom_in_text : is_some (decide text words) ≡ true → (k : ℕ) → k < span words 0 → (kind words k ≡ 0 → ⊥) → first words k + second words k ≤ length text
   unfolding good sits
-  atom_in h k o f =
+  atom_in_text h k o f =
       let (n, d, i) = held text words h in
       let fine = rw (ne_eqb (kind words k) 0 f, good) at (i.tree.each k o) in
-      record {
-        there = omega (arith, i.fits, i.spans);
-        in_text = leb-true _ _ (anded {a = eqb (span words k) 1} fine λ x y. and_first (leb (first words k + second words k) (length text)) _ y);
-      }
+      leb-true _ _ (anded {a = eqb (span words k) 1} fine λ x y. and_first (leb (first words k + second words k) (length text)) _ y)
 
   -- and was checked
   pub atom_good : Checked text words → (k : ℕ) → k < span words 0 → (kind words k ≡ 0 → ⊥) → is_atom (part_of text (first words k) (second words k)) ≡ true

@@ -4,7 +4,8 @@ use Prim.Native.Nat.{ℕ, ◌+◌, ◌≤◌}
 use native.Mathlib.Omega.{arith}
 use mathlib.Core.Path.{◌≡◌, refl, sym, ap, ◌∙◌}
 use mathlib.Core.Bool.{Bool, true, false, ◌&&◌, false≢true}
-use Rattle.std.specs.Prelude.{Some, None, Ok, Err}
+use Rattle.std.specs.Prelude.{Option, Some, None, Ok, Err}
+use Rattle.std.specs.Option.{ok_or}
 use mathlib.Core.List.{List, [], ◌∷◌, ◌++◌, append-nil}
 use lib.ListN.{length, replicate, length-replicate}
 use Rattle.sise_util.proofs.Ranges.{split, and_first, and_second}
@@ -19,12 +20,13 @@ use Rattle.sise_serializer.specs.Calls.{largest, Call, put_atom_call, begin_list
 use Rattle.sise_tree.specs.Tree.{Node, atom, list}
 use Rattle.sise_tree.specs.Answers.{answered}
 use Rattle.sise_tree_writer.specs.Answers.{put_as}
-use Rattle.sise_tree_writer.specs.SerializeTree.{node_calls, row_calls, tree_calls, fits, Writes, first_offset, written, write_tree, serialize_tree, DoesMeasure}
-use Rattle.sise_tree_writer.specs.Writing.{text_calls, PlansTree}
+use Rattle.sise_tree_writer.specs.SerializeTree.{node_calls, row_calls, tree_calls, fits, Writes, first_offset, written, write_tree, DoesMeasure}
+use Rattle.sise_tree_writer.specs.Writing.{text_calls, calls_of}
 use Rattle.sise_tree_writer.specs.Planning.{Plans}
 use Rattle.sise_tree_writer.specs.Walking.{after, first_answer}
+use Rattle.sise_tree_writer.specs.declared.serialize.WriteTreeError.{WriteTreeError}
 use Rattle.sise_tree_writer.specs.declared.serialize.WriteTreeError.TheVariants.{NoRoom}
-use Rattle.sise_tree_writer.specs.declared.serialize.TreeWrote.{TreeWrote}
+use Rattle.sise_tree_writer.specs.Answers.{TreeWrote}
 use Rattle.sise_tree_writer.proofs.Made.{Made, made}
 use Rattle.sise_tree_writer.proofs.CallLaws.{fits_first, accepted_keeps, run_after, after_sound}
 use Rattle.sise_tree_writer.proofs.Measuring.{refused_measures, Tested, fails, passes, tested, first_offset_lem, offset_first, written_on, written_off, fits_measures, Accepted, tree_accepted}
@@ -81,7 +83,8 @@ some_answer s b w text t n y =
     let (o, e, more) = fits_first s (length b) w c cs (rw z at y) in
     (o, ap (λ (l : List Call). first_offset (run s b w l).answers) z ∙ first_offset_lem s b w (c ∷ cs) e)
 
-module _ (s : Style) (room : ℕ) (w : Serializer) (text words : List ℕ) (t : ℕ) {r : TreeWrote} (measured : PlansTree s room w text words t r) where
+module _ (s : Style) (room : ℕ) (w : Serializer) (text words : List ℕ) (t : ℕ) {r : TreeWrote}
+    (measured : (b : List ℕ) → length b ≡ room → DoesMeasure (write_tree s b w text words (tree_calls text t)) r) where
   abbrev block : List ℕ
   block = replicate room 0
 
@@ -90,7 +93,6 @@ module _ (s : Style) (room : ℕ) (w : Serializer) (text words : List ℕ) (t : 
 
   module _ {o : ℕ} (e : put_as r.answer ≡ answered o) where
     taken : Accepted s block w text words (tree_calls text t)
-    unfolding serialize_tree
     taken = tree_accepted s block w text words (tree_calls text t) (sym (measured block block_long).answer ∙ e)
 
     abbrev calls : List Call
@@ -101,7 +103,6 @@ module _ (s : Style) (room : ℕ) (w : Serializer) (text words : List ℕ) (t : 
 
     -- the record after the tree
     tree_after : r.serializer ≡ after s room w calls
-    unfolding serialize_tree
     tree_after =
         (measured block block_long).serializer ∙ ap (λ (d : Writes). d.serializer) taken.same
         ∙ rw block_long at (run_after s w calls block taken.fit)
@@ -110,7 +111,6 @@ module _ (s : Style) (room : ℕ) (w : Serializer) (text words : List ℕ) (t : 
     tree_sound = ap is_sound tree_after ∙ after_sound s room w calls taken.sound
 
     tree_first : first_answer s room w calls ≡ writer.Answer.accepted o
-    unfolding serialize_tree
     tree_first =
         rw block_long at (offset_first s block w calls (sym (ap (λ (d : Writes). d.answer) taken.same) ∙ sym (measured block block_long).answer ∙ e))
 
@@ -119,7 +119,7 @@ module _ (s : Style) (room : ℕ) (w : Serializer) (text words : List ℕ) (t : 
       whole = text_calls text t wished taken.node
 
       -- the finish has no room
-      pub text_full : Plans (finish_call wished) s room r.serializer None → (b : List ℕ) → length b ≡ room
+      text_full : Plans (finish_call wished) s room r.serializer None → (b : List ℕ) → length b ≡ room
           → DoesMeasure (write_tree s b w text words (text_calls text t wished)) (record { serializer = w; answer = Err NoRoom })
       unfolding text_calls
       text_full plan b long =
@@ -127,7 +127,7 @@ module _ (s : Style) (room : ℕ) (w : Serializer) (text words : List ℕ) (t : 
           rw (taken.made b (text_calls text t wished), written_off s b w whole (rw long f)) (refused_measures b w NoRoom refl)
 
       -- or it has
-      pub text_fits : {v : Serializer} → Plans (finish_call wished) s room r.serializer (Some v) → (b : List ℕ) → length b ≡ room
+      text_fits : {v : Serializer} → Plans (finish_call wished) s room r.serializer (Some v) → (b : List ℕ) → length b ≡ room
           → DoesMeasure (write_tree s b w text words (text_calls text t wished)) (record { serializer = v; answer = Ok o })
       unfolding text_calls
       text_fits {v} plan b long =
@@ -136,9 +136,20 @@ module _ (s : Style) (room : ℕ) (w : Serializer) (text words : List ℕ) (t : 
           let e : v ≡ after s (length b) w whole = ahead.0 ∙ sym (after_more s room (finish_call wished) w calls) ∙ rw long refl in
           rw (taken.made b (text_calls text t wished), e) (fits_measures s b w whole (rw long f) (rw long (first_more s room (finish_call wished) w calls tree_first)))
 
+      -- so for the answer that is made of it
+      pub finish_off : (m : Option Serializer) {x : WriteTreeError} → Plans (finish_call wished) s room r.serializer m → Err x ≡ ok_or m NoRoom → (b : List ℕ) → length b ≡ room
+          → DoesMeasure (write_tree s b w text words (text_calls text t wished)) (record { serializer = w; answer = Err x })
+      finish_off None {x} plan q b long = let z : x ≡ NoRoom = cc in rw z (text_full plan b long)
+      finish_off (Some v) plan q b long = absurd cc
+
+      pub finish_on : (m : Option Serializer) {v : Serializer} → Plans (finish_call wished) s room r.serializer m → Ok v ≡ ok_or m NoRoom → (b : List ℕ) → length b ≡ room
+          → DoesMeasure (write_tree s b w text words (text_calls text t wished)) (record { serializer = v; answer = Ok o })
+      finish_on None plan q b long = absurd cc
+      finish_on (Some x) {v} plan q b long = let z : v ≡ x = cc in rw z (text_fits plan b long)
+
   -- the tree has no room, or is refused before: so is the whole text
-  pub text_none : (wished : Bool) → ((o : ℕ) → put_as r.answer ≡ answered o → ⊥) → (b : List ℕ) → length b ≡ room → DoesMeasure (write_tree s b w text words (text_calls text t wished)) r
-  unfolding serialize_tree text_calls
+  text_none : (wished : Bool) → ((o : ℕ) → put_as r.answer ≡ answered o → ⊥) → (b : List ℕ) → length b ≡ room → DoesMeasure (write_tree s b w text words (text_calls text t wished)) r
+  unfolding text_calls
   text_none wished never b long = of (tested s w text words)
     where
       of : Tested s w text words → DoesMeasure (write_tree s b w text words (text_calls text t wished)) r
@@ -152,6 +163,11 @@ module _ (s : Style) (room : ℕ) (w : Serializer) (text words : List ℕ) (t : 
           (λ y.
           let f : fits s (length b) w (tree_calls text t n ++ finish_call wished ∷ []) ≡ false = fits_more s (length b) (finish_call wished) w (tree_calls text t n) ∙ rw y in
           rw (q b (text_calls text t wished), written_off s b w (tree_calls text t n ++ finish_call wished ∷ []) f) (rw (written_off s b w (tree_calls text t n) y) at m))
+
+  -- with a finish or without
+  pub refused_none : (finish : Option Bool) → ((o : ℕ) → put_as r.answer ≡ answered o → ⊥) → (b : List ℕ) → length b ≡ room → DoesMeasure (write_tree s b w text words (calls_of text t finish)) r
+  refused_none None never b long = measured b long
+  refused_none (Some wished) never b long = text_none wished never b long
 
 -- ---- written
 

@@ -1,5 +1,5 @@
-pub mod Planned
 pub mod Made
+pub mod Planned
 pub mod Starting
 pub mod CallLaws
 pub mod Atoms

@@ -13,7 +13,7 @@ use Rattle.sise_tree_writer.specs.Answers.{error_number, put_as}
 use Rattle.sise_tree_writer.specs.SerializeTree.{Writes, DoesWrite, DoesMeasure}
 use Rattle.sise_tree_writer.specs.declared.serialize.WriteTreeError.{WriteTreeError}
 use Rattle.sise_tree_writer.specs.declared.serialize.WriteTreeError.TheVariants.{TextTooLong, UnsoundRecord, NotATree, InvalidAtom, WritingFinished, NoRoom, SizeChanged}
-use Rattle.sise_tree_writer.specs.declared.serialize.TreeWrote.{TreeWrote}
+use Rattle.sise_tree_writer.specs.Answers.{TreeWrote}
 use Rattle.sise_tree_writer.specs.Sizes.{Enquiry, adds, refuses, measured_as}
 use Rattle.sise_tree_writer.specs.declared.size.TreeSize.{TreeSize}
 

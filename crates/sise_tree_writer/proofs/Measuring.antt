@@ -5,7 +5,8 @@ use native.Mathlib.Omega.{arith}
 use mathlib.Core.Path.{◌≡◌, refl, sym, ap, ◌∙◌}
 use mathlib.Core.Bool.{true, false, false≢true}
 use mathlib.Core.Option.{Option as Maybe, none, some, some-injective}
-use Rattle.std.specs.Prelude.{Option, Some, None, Ok, Err}
+use Rattle.std.specs.Prelude.{Option, Ok, Err}
+use Rattle.std.specs.Option.{ok_or}
 use mathlib.Core.List.{List, [], ◌∷◌}
 use lib.Dec.{ltb}
 use lib.ListN.{length}
@@ -14,6 +15,7 @@ use Rattle.sise_util.proofs.Ranges.{split}
 use Rattle.sise_serializer.specs.Serializer as writer
 use Rattle.sise_serializer.specs.Serializer.{Style, is_sound}
 use Rattle.sise_serializer.specs.declared.serializer.Serializer.{Serializer}
+use Rattle.sise_serializer.specs.Parts.{wrote_of}
 use Rattle.sise_serializer.specs.Calls.{Call, step, run}
 use Rattle.sise_tree.specs.Tree.{Node, atoms_hold}
 use Rattle.sise_tree.specs.Decision.{decide, is_some}
@@ -28,10 +30,10 @@ use Rattle.sise_tree_writer.specs.Answers.{error_number, refusal_of}
 use Rattle.sise_tree_writer.specs.SerializeTree.{fits, Writes, refuse, first_offset, written, is_over, write_node, write_tree, DoesMeasure}
 use Rattle.sise_tree_writer.specs.Writing.{Checked}
 use Rattle.sise_tree_writer.specs.Walking.{after, first_answer, Finds, all, off}
-use Rattle.sise_tree_writer.specs.declared.measure.Planned.{Planned}
+use Rattle.sise_serializer.specs.declared.serializer.Placed.{Placed}
 use Rattle.sise_tree_writer.specs.declared.serialize.WriteTreeError.{WriteTreeError}
 use Rattle.sise_tree_writer.specs.declared.serialize.WriteTreeError.TheVariants.{NotATree, InvalidAtom, NoRoom}
-use Rattle.sise_tree_writer.specs.declared.serialize.TreeWrote.{TreeWrote}
+use Rattle.sise_tree_writer.specs.Answers.{TreeWrote}
 use Rattle.sise_tree_writer.proofs.CallLaws.{fits_first, run_after}
 use Rattle.sise_tree_writer.proofs.Placing.{fits_lands, lands_answers}
 
@@ -168,15 +170,9 @@ module _ (s : Style) (b : List ℕ) (w : Serializer) (cs : List Call) where
 
 -- what a walk finds in room bytes is what holds of a buffer of so many bytes
 module _ {s : Style} {room : ℕ} {w : Serializer} {cs : List Call} (b : List ℕ) (long : length b ≡ room) where
-  pub found_fits : {m : Option Planned} {p : Planned} → Finds s room w cs m → m ≡ Some p → DoesMeasure (written s b w cs) (record { serializer = p.serializer; answer = Ok p.offset })
-  found_fits {p = p} (all {o = x} f a) e =
-      let q : record { serializer = after s room w cs; offset = x } ≡ p = cc in
-      rw (← q, ← long) (fits_measures s b w cs (rw long f) (rw long a))
-  found_fits {p = p} (off f) e = absurd cc
-
-  pub found_off : {m : Option Planned} → Finds s room w cs m → m ≡ None → DoesMeasure (written s b w cs) (record { serializer = w; answer = Err NoRoom })
-  found_off (all f a) e = absurd cc
-  found_off (off f) e = rw (written_off s b w cs (rw long f)) (refused_measures b w NoRoom refl)
+  pub found : {m : Option Placed} → Finds s room w cs m → DoesMeasure (written s b w cs) (wrote_of w (ok_or m NoRoom))
+  found (all f a) = rw (← long) (fits_measures s b w cs (rw long f) (rw long a))
+  found (off f) = rw (written_off s b w cs (rw long f)) (refused_measures b w NoRoom refl)
 
 -- ---- what a tree call's answer says
 

@@ -19,7 +19,7 @@ use Rattle.sise_tree_writer.specs.Answers.{put_as}
 use Rattle.sise_tree_writer.specs.SerializeTree.{fits, Writes, refuse, written, write_tree, DoesWrite, DoesMeasure}
 use Rattle.sise_tree_writer.specs.Sizes.{Enquiry, added, enquiry_by, enquiry, same, commit, Grown}
 use Rattle.sise_tree_writer.specs.declared.serialize.WriteTreeError.TheVariants.{SizeChanged}
-use Rattle.sise_tree_writer.specs.declared.serialize.TreeWrote.{TreeWrote}
+use Rattle.sise_tree_writer.specs.Answers.{TreeWrote}
 use Rattle.sise_tree_writer.proofs.Measuring.{no_answer, written_on, written_off, Tested, fails, passes, tested, same_number, on_answer}
 
 -- ---- the counts go up

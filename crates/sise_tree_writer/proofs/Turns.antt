@@ -1,24 +1,25 @@
 -- The turns of a walk over a table that holds a tree make the tree's calls, one after the other: at each place the calls left are those of the nodes left
 -- in the innermost open list, its end, and what is left of the lists around it.
 -- Assumes nothing.
-use Prim.Native.Nat.{ℕ, ◌+◌, ◌*◌, ◌≤◌, ◌<◌}
+use Prim.Native.Nat.{ℕ, ◌+◌, ◌<◌}
 use native.Mathlib.Omega.{arith}
-use mathlib.Core.Path.{◌≡◌, refl, sym, ap, ◌∙◌}
-use mathlib.Core.Bool.{Bool, true, false, cond, false≢true}
+use mathlib.Core.Path.{◌≡◌, refl, sym, ◌∙◌}
+use mathlib.Core.Bool.{false, cond}
+use Rattle.std.specs.Prelude.{Option, Some, None}
 use mathlib.Core.List.{List, [], ◌∷◌, ◌++◌, append_assoc}
-use lib.Dec.{ltb, eqb}
-use lib.ListN.{length}
-use borrow.Author.Tests.{eqb-true, eqb-false, eq-eqb, ne_eqb, lt-ltb}
-use Rattle.sise_util.proofs.Ranges.{split}
+use lib.Dec.{eqb}
+use borrow.Author.Tests.{ne_eqb}
 use Rattle.sise_parser.specs.Reader.{part_of}
 use Rattle.sise_serializer.specs.Calls.{largest, Call, put_atom_call, begin_list_call, end_list_call}
-use Rattle.sise_tree.specs.Tree.{Node, atom, list, Nodes, empty, ◌then◌, size, sizes, table_at, lies, kind, first, second, span}
+use Rattle.sise_tree.specs.Tree.{Node, atom, list, Nodes, empty, ◌then◌, size, sizes, table_at, lies, span}
 use Rattle.sise_tree.proofs.TreeLaws.{sits_kind, size_pos, holds_words}
 use Rattle.sise_tree.proofs.LocalLaws.{stands, Held}
 use Rattle.sise_tree.proofs.WalkLaws.{Around, Walk, walk_root, walk_atom, walk_list, walk_close, walk_ends, walk_within}
 use Rattle.sise_tree_writer.specs.SerializeTree.{node_calls, row_calls, tree_calls}
-use Rattle.sise_tree_writer.specs.Planning.{item_call, turn_call}
-use Rattle.sise_tree_writer.specs.Walking.{opens_at, atom_at, Passable, passed}
+use Rattle.sise_tree_writer.specs.Walking.{IsTurn, Passable, started, left_list, passed, turn_call}
+use Rattle.sise_tree_writer.specs.declared.walk.Place.{Place}
+use Rattle.sise_tree_writer.specs.declared.walk.Turn.{Turn}
+use Rattle.sise_tree_writer.specs.declared.walk.Turn.TheVariants as turn
 
 -- ---- the calls left
 
@@ -39,156 +40,97 @@ pending_list text a t d c (b ∷ o) = simp append_assoc
 
 -- ---- where a walk is
 
--- at node i, in the list `cur` that ends at node `end`, with the calls `rest` left: at the first node, inside it, or behind it
-pub data At (words text : List ℕ) (t i cur end : ℕ) (begins left : Bool) (rest : List Call) : Type 0 where
-  root : (n : Node) → Held text words n → i ≡ 0 → cur ≡ 0 → end ≡ span words 0 → begins ≡ false → left ≡ true → rest ≡ tree_calls text t n
-      → At words text t i cur end begins left rest
-  inside : (c : Nodes) (o : List Nodes) → Walk words cur i c o → end ≡ cur + span words cur → left ≡ true → rest ≡ pending text (cond begins largest t) t c o
-      → At words text t i cur end begins left rest
-  behind : left ≡ false → rest ≡ [] → 0 < i → At words text t i cur end begins left rest
+-- at a place, with the calls `rest` left: before the first node, or inside it
+pub data At (words text : List ℕ) (t : ℕ) (p : Place) (rest : List Call) : Type 0 where
+  root : (n : Node) → Held text words n → p ≡ started words → rest ≡ tree_calls text t n → At words text t p rest
+  inside : (c : Nodes) (o : List Nodes) → Walk words p.list p.i c o → p.end ≡ p.list + span words p.list → rest ≡ pending text (cond p.begins largest t) t c o → At words text t p rest
+
+-- the same of what is due, if anything is; else no call is left
+abbrev pub AtDue : List ℕ → List ℕ → ℕ → Option Place → List Call → Type 0
+AtDue words text t None rest = rest ≡ []
+AtDue words text t (Some p) rest = At words text t p rest
 
 -- one turn: its call is the first of those left, and the walk goes on with the others
-pub record Turn (words text : List ℕ) (t i cur end : ℕ) (begins : Bool) (rest : List Call) (closes isList : Bool) : Type 0 where
+pub record Turned (words text : List ℕ) (t : ℕ) (p : Place) (rest : List Call) (x : Turn) : Type 0 where
   pub more : List Call
-  pub due : rest ≡ turn_call closes (atom_at text words i closes isList) isList (cond isList t (cond begins largest t)) ∷ more
-  pub next : let p = passed words i cur end closes isList in At words text t p.i p.list p.end p.begins p.left more
-  pub passable : Passable words i cur closes
-  pub within : closes ≡ false → i < span words 0
-  pub started : 0 < (passed words i cur end closes isList).i
+  pub due : rest ≡ turn_call x (cond p.begins largest t) t ∷ more
+  pub next : AtDue words text t (passed words p x) more
+  pub passable : Passable words p x
 
 module _ (words text : List ℕ) (t : ℕ) where
-  -- the call of an atom, and of a list
-  atom_due : (i : ℕ) (begins closes isList : Bool) {p m : ℕ} → closes ≡ false → isList ≡ false → first words i ≡ p → second words i ≡ m
-      → put_atom_call (part_of text p m) (cond begins largest t) ≡ turn_call closes (atom_at text words i closes isList) isList (cond isList t (cond begins largest t))
-  unfolding turn_call item_call
-  atom_due i begins closes isList k l f g = rw (k, l, f, g)
+  -- the node that is due is one of the first node's
+  pub due_within : {p : Place} {rest : List Call} → At words text t p rest → (p.i ≡ p.end → ⊥) → p.i < span words 0
+  unfolding sizes
+  due_within (root n h e q) f = rw e (omega (arith, h.spans, size_pos n))
+  due_within (inside empty o w z q) f = absurd (f (omega (arith, z, w.rest.stop)))
+  due_within (inside (n then c) o w z q) f = let bounds = walk_within words (n then c) o w in omega (arith, bounds.1, size_pos n)
 
-  list_due : (i : ℕ) (begins closes isList : Bool) → closes ≡ false → isList ≡ true
-      → begin_list_call t ≡ turn_call closes (atom_at text words i closes isList) isList (cond isList t (cond begins largest t))
-  unfolding turn_call item_call
-  list_due i begins closes isList k l = rw (k, l)
+  -- ---- before the first node
 
-  end_due : (i : ℕ) (begins closes isList : Bool) → closes ≡ true
-      → end_list_call ≡ turn_call closes (atom_at text words i closes isList) isList (cond isList t (cond begins largest t))
-  unfolding turn_call
-  end_due i begins closes isList k = rw k
+  root_turn : (n : Node) → Held text words n → (x : Turn) → IsTurn text words (started words) x → Turned words text t (started words) (tree_calls text t n) x
+  unfolding node_calls table_at size pending lies
+  root_turn n h turn.End z = absurd (omega (arith, z, h.spans, size_pos n))
+  root_turn (atom w m k) h turn.List z = let s = stands words 0 (holds_words h.holds) in absurd (sits_kind text w m k h.holds.in_text (sym s.kinds ∙ z.1))
+  root_turn (list c) h turn.List z = record { more = pending text largest t c []; due = refl; next = inside c [] (walk_root c h) refl refl; passable = omega (arith, h.fits) }
+  root_turn (atom w m k) h (turn.Atom a) z =
+      let s = stands words 0 (holds_words h.holds) in
+      record { more = []; due = rw (z.2, s.firsts, s.seconds); next = refl; passable = omega (arith, h.fits) }
+  root_turn (list c) h (turn.Atom a) z = let s = stands words 0 (holds_words h.holds) in absurd (z.1 s.kinds)
 
-  -- the turn's node is in the table
-  here : {i cur : ℕ} {closes : Bool} → closes ≡ false → 4 * (i + 1) ≤ length words → Passable words i cur closes
-  here k le = record { there = λ e. le; listed = λ e. absurd (false≢true (sym k ∙ e)); away = λ e f. absurd (false≢true (sym k ∙ e)) }
+  -- ---- inside it
 
-  module _ (i cur end : ℕ) (begins : Bool) (rest : List Call) (closes isList : Bool) (ends : closes ≡ eqb i end) (opens : isList ≡ opens_at words i closes) where
-    -- not closing, the node's kind decides
-    as_list : closes ≡ false → kind words i ≡ 0 → isList ≡ true
-    as_list k z = opens ∙ rw k (eq-eqb _ _ z)
+  module _ {p : Place} (ends : p.end ≡ p.list + span words p.list) where
+    close_turn : (c : Nodes) (o : List Nodes) → Walk words p.list p.i c o → p.i ≡ p.end → Turned words text t p (pending text (cond p.begins largest t) t c o) turn.End
+    unfolding left_list pending row_calls Around
+    close_turn c [] w z =
+        let none = walk_ends words c [] w (z ∙ ends) in
+        let r = w.rest in
+        let last : p.list ≡ 0 = w.around in
+        record {
+          more = [];
+          due = rw none;
+          next = rw last refl;
+          passable = record { listed = omega (arith, r.stop, r.fit, r.behind, r.after); away = λ f. absurd (f last) };
+        }
+    close_turn c (d ∷ o) w z =
+        let none = walk_ends words c (d ∷ o) w (z ∙ ends) in
+        let r = w.rest in
+        let child = w.around.0 in
+        let inner : eqb p.list 0 ≡ false = ne_eqb p.list 0 (λ (e : p.list ≡ 0). omega (arith, child.away, child.within)) in
+        record {
+          more = pending text t t d o;
+          due = rw none;
+          next = rw inner (inside d o (walk_close words d o (rw none at w)) refl refl);
+          passable = record { listed = omega (arith, r.stop, r.fit, r.behind, r.after); away = λ f. child.within };
+        }
 
-    as_atom : closes ≡ false → (kind words i ≡ 0 → ⊥) → isList ≡ false
-    as_atom k f = opens ∙ rw k (ne_eqb (kind words i) 0 f)
+    inside_turn : (c : Nodes) (o : List Nodes) → Walk words p.list p.i c o → (x : Turn) → IsTurn text words p x → Turned words text t p (pending text (cond p.begins largest t) t c o) x
+    unfolding sizes size
+    inside_turn c o w turn.End z = close_turn c o w z
+    inside_turn empty o w turn.List z = absurd (z.0 (omega (arith, ends, w.rest.stop)))
+    inside_turn (atom g m k then c) o w turn.List z = absurd ((walk_atom words g m k c o w).some z.1)
+    inside_turn (list d then c) o w turn.List z =
+        let s = walk_list words d c o w in
+        record {
+          more = pending text largest t d (c ∷ o);
+          due = pending_list text (cond p.begins largest t) t d c o;
+          next = inside d (c ∷ o) s.next refl refl;
+          passable = omega (arith, w.rest.fit);
+        }
+    inside_turn empty o w (turn.Atom a) z = absurd (z.0 (omega (arith, ends, w.rest.stop)))
+    inside_turn (atom g m k then c) o w (turn.Atom a) z =
+        let s = walk_atom words g m k c o w in
+        let bounds = walk_within words (atom g m k then c) o w in
+        let later : eqb p.i 0 ≡ false = ne_eqb p.i 0 (λ (e : p.i ≡ 0). omega (arith, bounds.0)) in
+        record {
+          more = pending text t t c o;
+          due = pending_atom text (cond p.begins largest t) t g m k c o ∙ rw (z.2, s.places, s.lengths);
+          next = rw later (inside c o s.next ends refl);
+          passable = omega (arith, w.rest.fit);
+        }
+    inside_turn (list d then c) o w (turn.Atom a) z = absurd (z.1 (walk_list words d c o w).kinds)
 
-    -- ---- at the first node
-
-    module _ (zi : i ≡ 0) (zl : cur ≡ 0) (ze : end ≡ span words 0) (zb : begins ≡ false) where
-      not_closing : {n : Node} → Held text words n → closes ≡ false
-      not_closing {n} h = ends ∙ ne_eqb i end (λ (e : i ≡ end). omega (arith, ze, h.spans, size_pos n))
-
-      root_turn : (n : Node) → Held text words n → rest ≡ tree_calls text t n → Turn words text t i cur end begins rest closes isList
-      unfolding passed node_calls table_at size pending lies
-      root_turn (atom w p m) h q =
-          let k = not_closing h in
-          let s = stands words 0 (holds_words h.holds) in
-          let l = as_atom k (λ (z : kind words i ≡ 0). sits_kind text w p m h.holds.in_text (sym s.kinds ∙ ap (kind words) (sym zi) ∙ z)) in
-          record {
-            more = [];
-            due =
-                q ∙ ap (λ (b : Bool). put_atom_call (part_of text p m) (cond b largest t) ∷ []) (sym zb)
-                ∙ ap (λ (c : Call). c ∷ []) (atom_due i begins closes isList {p = p} {m = m} k l (rw zi s.firsts) (rw zi s.seconds));
-            next = rw (k, l) (behind (rw zi refl) refl (omega arith));
-            passable = here k (omega (arith, h.fits, zi));
-            within = λ _. omega (arith, h.spans, zi);
-            started = rw (k, l) (omega arith);
-          }
-      root_turn (list c) h q =
-          let k = not_closing h in
-          let s = stands words 0 (holds_words h.holds) in
-          let l = as_list k (rw zi s.kinds) in
-          record {
-            more = pending text largest t c [];
-            due = q ∙ ap (λ (x : Call). x ∷ pending text largest t c []) (list_due i begins closes isList k l);
-            next = rw (k, l, zi) (inside c [] (walk_root c h) refl refl refl);
-            passable = here k (omega (arith, h.fits, zi));
-            within = λ _. omega (arith, h.spans, zi);
-            started = rw (k, l) (omega arith);
-          }
-
-    -- ---- inside it
-
-    module _ (ze : end ≡ cur + span words cur) where
-      -- the list ends here
-      close_turn : (c : Nodes) (o : List Nodes) → Walk words cur i c o → rest ≡ pending text (cond begins largest t) t c o → closes ≡ true → Turn words text t i cur end begins rest closes isList
-      unfolding passed pending row_calls Around
-      close_turn c [] w q k =
-          let z = eqb-true i end (sym ends ∙ k) in
-          let none = walk_ends words c [] w (z ∙ ze) in
-          let r = w.rest in
-          let last : cur ≡ 0 = w.around in
-          record {
-            more = [];
-            due = q ∙ rw none (ap (λ (x : Call). x ∷ []) (end_due i begins closes isList k));
-            next = rw (k, last) (behind refl refl (omega (arith, (walk_within words c [] w).0)));
-            started = rw (k, last) (omega (arith, (walk_within words c [] w).0));
-            passable = record { there = λ e. absurd (false≢true (sym e ∙ k)); listed = λ e. omega (arith, r.stop, r.fit, r.behind, r.after); away = λ e f. absurd (f last) };
-            within = λ e. absurd (false≢true (sym e ∙ k));
-          }
-      close_turn c (d ∷ o) w q k =
-          let z = eqb-true i end (sym ends ∙ k) in
-          let none = walk_ends words c (d ∷ o) w (z ∙ ze) in
-          let r = w.rest in
-          let child = w.around.0 in
-          let inner : eqb cur 0 ≡ false = ne_eqb cur 0 (λ (e : cur ≡ 0). omega (arith, child.away, child.within)) in
-          record {
-            more = pending text t t d o;
-            due = q ∙ rw none (ap (λ (x : Call). x ∷ pending text t t d o) (end_due i begins closes isList k));
-            next = rw (k, inner) (inside d o (walk_close words d o (rw none at w)) refl refl refl);
-            started = rw (k, inner) (omega (arith, (walk_within words c (d ∷ o) w).0));
-            passable = record { there = λ e. absurd (false≢true (sym e ∙ k)); listed = λ e. omega (arith, r.stop, r.fit, r.behind, r.after); away = λ e f. child.within };
-            within = λ e. absurd (false≢true (sym e ∙ k));
-          }
-
-      -- a node of it is due
-      node_turn : (c : Nodes) (o : List Nodes) → Walk words cur i c o → rest ≡ pending text (cond begins largest t) t c o → closes ≡ false → Turn words text t i cur end begins rest closes isList
-      unfolding passed sizes size
-      node_turn empty o w q k = absurd (eqb-false i end (sym ends ∙ k) (omega (arith, ze, w.rest.stop)))
-      node_turn (atom g p m then c) o w q k =
-          let s = walk_atom words g p m c o w in
-          let l = as_atom k s.some in
-          let bounds = walk_within words (atom g p m then c) o w in
-          let later : ltb 0 i ≡ true = lt-ltb 0 i (omega (arith, bounds.0)) in
-          record {
-            more = pending text t t c o;
-            due = q ∙ pending_atom text (cond begins largest t) t g p m c o ∙ ap (λ (x : Call). x ∷ pending text t t c o) (atom_due i begins closes isList k l s.places s.lengths);
-            next = rw (k, l) (inside c o s.next ze later refl);
-            passable = here k (omega (arith, w.rest.fit));
-            within = λ _. omega (arith, bounds.1);
-            started = rw (k, l) (omega arith);
-          }
-      node_turn (list d then c) o w q k =
-          let s = walk_list words d c o w in
-          let l = as_list k s.kinds in
-          let bounds = walk_within words (list d then c) o w in
-          record {
-            more = pending text largest t d (c ∷ o);
-            due = q ∙ pending_list text (cond begins largest t) t d c o ∙ ap (λ (x : Call). x ∷ pending text largest t d (c ∷ o)) (list_due i begins closes isList k l);
-            next = rw (k, l) (inside d (c ∷ o) s.next refl refl refl);
-            passable = here k (omega (arith, w.rest.fit));
-            within = λ _. omega (arith, bounds.1);
-            started = rw (k, l) (omega arith);
-          }
-
-      inside_turn : (c : Nodes) (o : List Nodes) → Walk words cur i c o → rest ≡ pending text (cond begins largest t) t c o → Turn words text t i cur end begins rest closes isList
-      inside_turn c o w q = split closes (close_turn c o w q) (node_turn c o w q)
-
-    -- where something is left, a turn is made
-    pub turn : {left : Bool} → At words text t i cur end begins left rest → left ≡ true → Turn words text t i cur end begins rest closes isList
-    turn (root n h zi zl ze zb l q) e = root_turn zi zl ze zb n h q
-    turn (inside c o w ze l q) e = inside_turn ze c o w q
-    turn (behind l q p) e = absurd (false≢true (sym l ∙ e))
+  -- each turn is made
+  pub turned : {p : Place} {rest : List Call} (x : Turn) → At words text t p rest → IsTurn text words p x → Turned words text t p rest x
+  turned x (root n h e q) z = rw (e, q) (root_turn n h x (rw e at z))
+  turned x (inside c o w e q) z = rw q (inside_turn e c o w x z)

@@ -1,52 +1,62 @@
 -- What a walk over a tree's calls knows before each turn, and that a turn leads on: the calls left do as the whole does, and the first offset is kept.
 -- Assumes nothing.
-use Prim.Native.Nat.{ℕ, ◌+◌, ◌-◌, ◌*◌, ◌≤◌, ◌<◌}
+use Prim.Native.Nat.{ℕ, ◌+◌, ◌-◌, ◌*◌, ◌<◌}
 use native.Mathlib.Omega.{arith}
 use mathlib.Core.Path.{◌≡◌, refl, sym, ap, ◌∙◌}
-use mathlib.Core.Bool.{Bool, true, false, ◌||◌, cond, false≢true}
+use mathlib.Core.Bool.{Bool, true, false, cond}
 use mathlib.Core.Option.{some, some-injective}
-use Rattle.std.specs.Prelude.{Some, None}
-use mathlib.Core.List.{List, [], ◌∷◌}
+use Rattle.std.specs.Prelude.{Option, Some, None}
+use mathlib.Core.List.{List, []}
 use lib.Dec.{eqb}
 use lib.ListN.{length}
-use borrow.Author.Tests.{eqb-true, eqb-false, eq-eqb}
-use Rattle.sise_util.specs.Atom.{is_atom}
 use Rattle.sise_util.proofs.Ranges.{split}
 use Rattle.sise_serializer.specs.Bytes.{pasted}
 use Rattle.sise_serializer.specs.Serializer as writer
 use Rattle.sise_serializer.specs.Serializer.{Style, is_sound}
-use Rattle.sise_serializer.specs.Calls.{largest, Call, is_accepted, step, run}
+use Rattle.sise_serializer.specs.Calls.{largest, Call, put_atom_call, begin_list_call, end_list_call, is_accepted, step, run}
 use Rattle.sise_serializer.specs.declared.serializer.Serializer.{Serializer}
 use Rattle.sise_serializer.proofs.Kept.{sound_kept}
-use Rattle.sise_tree.specs.Tree.{Node, kind, span}
+use Rattle.sise_tree.specs.Tree.{Node}
 use Rattle.sise_tree.specs.Decision.{decide}
 use Rattle.sise_tree.proofs.LocalLaws.{held}
 use Rattle.sise_tree_writer.specs.SerializeTree.{tree_calls, fits}
 use Rattle.sise_tree_writer.specs.Writing.{Checked}
-use Rattle.sise_tree_writer.specs.Planning.{CanMake, Makes, item_call, turn_call, Starts}
-use Rattle.sise_tree_writer.specs.Walking.{opens_at, atom_at, AtomIn, Passable, passed, after, first_answer, Finds, all, off, Walkable}
-use Rattle.sise_tree_writer.proofs.Atoms.{atom_in, atom_good}
-use Rattle.sise_tree_writer.proofs.CallLaws.{fits_first, fits_stop, lists_after, accepted_lists, closed_list, written_if, Same, same_start, same_on}
+use Rattle.sise_tree_writer.specs.Planning.{CanMake, Makes, Starts}
+use Rattle.sise_tree_writer.specs.Walking.{IsTurn, NodeIn, Passable, GoodTurn, started, left_list, passed, turn_call, after, first_answer, Finds, all, off, Walkable}
+use Rattle.sise_tree_writer.specs.declared.walk.Place.{Place}
+use Rattle.sise_tree_writer.specs.declared.walk.Turn.{Turn}
+use Rattle.sise_tree_writer.specs.declared.walk.Turn.TheVariants as turn
+use Rattle.sise_tree_writer.proofs.Atoms.{node_there, atom_in_text, atom_good}
+use Rattle.sise_tree_writer.proofs.CallLaws.{fits_first, fits_stop, accepted_lists, closed_list, written_if, Same, same_start, same_on}
 use Rattle.sise_tree_writer.proofs.Starting.{tree_starts}
-use Rattle.sise_tree_writer.proofs.Turns.{At, root, inside, behind, Turn, turn}
+use Rattle.sise_tree_writer.proofs.Turns.{At, root, AtDue, due_within, Turned, turned}
 
-pub record Walking (s : Style) (text words : List ℕ) (t : ℕ) (writes : Bool) (room : ℕ) (b₀ : List ℕ) (w₀ : Serializer) (b : List ℕ) (w : Serializer) (i cur end : ℕ) (begins left : Bool) (o : ℕ) : Type 0 where
+-- the first call's answer is known, or no call was made yet
+pub data Begun (s : Style) (room : ℕ) (w₀ : Serializer) (cs₀ : List Call) (due : Option Place) (w : Serializer) (cs : List Call) : Type 0 where
+  not_yet : {p : Place} → due ≡ Some p → first_answer s room w cs ≡ first_answer s room w₀ cs₀ → Begun s room w₀ cs₀ due w cs
+  answered_by : (o : ℕ) → first_answer s room w₀ cs₀ ≡ writer.Answer.accepted o → Begun s room w₀ cs₀ due w cs
+
+pub record Walking (s : Style) (text words : List ℕ) (t : ℕ) (writes : Bool) (room : ℕ) (b₀ : List ℕ) (w₀ : Serializer) (b : List ℕ) (w : Serializer) (due : Option Place) : Type 0 where
   pub tree : Node
   pub decided : decide text words ≡ some tree
   pub checked : Checked text words
   pub sound : is_sound w ≡ true
   pub rest : List Call
-  pub at : At words text t i cur end begins left rest
+  pub at : AtDue words text t due rest
   pub same : Same s writes room b₀ w₀ (tree_calls text t tree) b w rest
   pub fit : writes ≡ true → fits s room w₀ (tree_calls text t tree) ≡ true
   pub long : length b ≡ length b₀
-  pub begun : i ≡ 0 → first_answer s room w rest ≡ first_answer s room w₀ (tree_calls text t tree)
-  pub offset : 0 < i → first_answer s room w₀ (tree_calls text t tree) ≡ writer.Answer.accepted o
+  pub begun : Begun s room w₀ (tree_calls text t tree) due w rest
 
-pub walking_start : (s : Style) (text words : List ℕ) (t : ℕ) (writes : Bool) (room : ℕ) (b : List ℕ) (w : Serializer) {end : ℕ} → end ≡ span words 0
+-- how many turns are left at most: each makes less of them
+abbrev pub turns_left : List ℕ → Option Place → Serializer → ℕ
+turns_left words None w = 0
+turns_left words (Some p) w = 1 + 2 * (length words - p.i) + w.lists
+
+pub walking_start : (s : Style) (text words : List ℕ) (t : ℕ) (writes : Bool) (room : ℕ) (b : List ℕ) (w : Serializer)
     → Walkable w text words → (writes ≡ true → room ≡ length b)
-    → (writes ≡ true → (n : Node) → decide text words ≡ some n → fits s room w (tree_calls text t n) ≡ true) → Walking s text words t writes room b w b w 0 0 end false true 0
-walking_start s text words t writes room b w z k lent fit =
+    → (writes ≡ true → (n : Node) → decide text words ≡ some n → fits s room w (tree_calls text t n) ≡ true) → Walking s text words t writes room b w b w (Some (started words))
+walking_start s text words t writes room b w k lent fit =
     let (n, d, h) = held text words k.checked.holds in
     record {
       tree = n;
@@ -54,16 +64,15 @@ walking_start s text words t writes room b w z k lent fit =
       checked = k.checked;
       sound = k.sound;
       rest = tree_calls text t n;
-      at = root n h refl refl z refl refl refl;
+      at = root n h refl refl;
       same = same_start s writes room b w (tree_calls text t n) lent;
       fit = λ e. fit e n d;
       long = refl;
-      begun = λ e. refl;
-      offset = λ l. absurd (omega arith);
+      begun = not_yet refl refl;
     }
 
-module _ {s : Style} {text words : List ℕ} {t : ℕ} {writes : Bool} {room : ℕ} {b₀ : List ℕ} {w₀ : Serializer} {b : List ℕ} {w : Serializer} {i cur end : ℕ} {begins left : Bool} {o : ℕ}
-    (h : Walking s text words t writes room b₀ w₀ b w i cur end begins left o) where
+module _ {s : Style} {text words : List ℕ} {t : ℕ} {writes : Bool} {room : ℕ} {b₀ : List ℕ} {w₀ : Serializer} {b : List ℕ} {w : Serializer} {due : Option Place}
+    (h : Walking s text words t writes room b₀ w₀ b w due) where
   abbrev calls : List Call
   calls = tree_calls text t h.tree
 
@@ -71,74 +80,75 @@ module _ {s : Style} {text words : List ℕ} {t : ℕ} {writes : Bool} {room : �
   the_tree : {n : Node} → decide text words ≡ some n → h.tree ≡ n
   the_tree d = some-injective _ _ (sym h.decided ∙ d)
 
-  module _ (more : left ≡ true) {closes isList : Bool} (ends : closes ≡ eqb i end) (opens : isList ≡ opens_at words i closes) where
-    abbrev made : Turn words text t i cur end begins h.rest closes isList
-    made = turn words text t i cur end begins h.rest closes isList ends opens h.at more
+  module _ {p : Place} (is : due ≡ Some p) where
+    at_place : At words text t p h.rest
+    at_place = rw is at h.at
 
-    pub turn_there : closes ≡ false → 4 * (i + 1) ≤ length words
-    turn_there k = made.passable.there k
+    pub place_in : NodeIn text words p
+    place_in = record {
+      there = λ f. node_there text words h.checked.holds p.i (due_within words text t at_place f);
+      in_text = λ f g. atom_in_text text words h.checked.holds p.i (due_within words text t at_place f) g;
+    }
 
-    pub turn_passable : Passable words i cur closes
-    turn_passable = made.passable
+    module _ (x : Turn) (its : IsTurn text words p x) where
+      abbrev made : Turned words text t p h.rest x
+      made = turned words text t x at_place its
 
-    no_list : closes ≡ false → isList ≡ false → kind words i ≡ 0 → ⊥
-    no_list k l z = false≢true (sym l ∙ opens ∙ rw k (eq-eqb _ _ z))
+      pub turn_passable : Passable words p x
+      turn_passable = made.passable
 
-    pub turn_atom : closes ≡ false → isList ≡ false → AtomIn text words i
-    turn_atom k l = atom_in text words h.checked.holds i (made.within k) (no_list k l)
+      pub turn_good : GoodTurn x
+      turn_good = good x its
+        where
+          good : (x : Turn) → IsTurn text words p x → GoodTurn x
+          good turn.End z = tt
+          good turn.List z = tt
+          good (turn.Atom a) z = rw z.2 (atom_good text words h.checked p.i (due_within words text t at_place z.0) z.1)
 
-    module _ {atom : List ℕ} (its : atom ≡ atom_at text words i closes isList) where
-      pub turn_good : closes ≡ false → (isList || is_atom atom) ≡ true
-      turn_good k =
-          split isList (λ l. rw l)
-          (λ l. rw (l, its, k, l) (atom_good text words h.checked i (made.within k) (no_list k l)))
+      abbrev call : Call
+      call = turn_call x (cond p.begins largest t) t
 
-      module _ {line : ℕ} (lines : line ≡ cond isList t (cond begins largest t)) where
-        abbrev call : Call
-        call = turn_call closes atom isList line
+      -- refused, the calls do not fit
+      pub turn_off : is_accepted (step s room w call).answer ≡ false → fits s room w₀ calls ≡ false
+      turn_off e = sym h.same.fit ∙ ap (fits s room w) made.due ∙ fits_stop s room w call made.more e
 
-        due : h.rest ≡ call ∷ made.more
-        due = made.due ∙ rw (its, lines)
+      -- where they are written, it is accepted
+      pub turn_can : writes ≡ true → CanMake call s w b
+      turn_can y =
+          let (o, e, more) = fits_first s room w call made.more (sym (ap (fits s room w) made.due) ∙ h.same.fit ∙ h.fit y) in
+          (o, sym (ap (λ (k : ℕ). (step s k w call).answer) (h.same.lent y)) ∙ e)
 
-        -- refused, the calls do not fit
-        pub turn_off : is_accepted (step s room w call).answer ≡ false → fits s room w₀ calls ≡ false
-        turn_off e = sym h.same.fit ∙ ap (fits s room w) due ∙ fits_stop s room w call made.more e
+      module _ {v : Serializer} {at : ℕ} (does : v ≡ (step s room w call).serializer) (accepted : (step s room w call).answer ≡ writer.Answer.accepted at) where
+        -- fewer nodes, or fewer open lists
+        pub turn_less : turns_left words (passed words p x) v < turns_left words due w
+        unfolding left_list
+        turn_less = rw is (less x its turn_passable does accepted)
+          where
+            less : (x : Turn) → IsTurn text words p x → Passable words p x → v ≡ (step s room w (turn_call x (cond p.begins largest t) t)).serializer
+                → (step s room w (turn_call x (cond p.begins largest t) t)).answer ≡ writer.Answer.accepted at → turns_left words (passed words p x) v < 1 + 2 * (length words - p.i) + w.lists
+            less turn.End z k d e =
+                let lists : v.lists ≡ w.lists - 1 = ap (λ (x : Serializer). x.lists) d ∙ accepted_lists s room w h.sound end_list_call e in
+                let one : 0 < w.lists = closed_list s room w h.sound e in
+                split (eqb p.list 0) (λ y. rw y (omega arith)) (λ y. rw y (omega arith))
+            less turn.List z k d e =
+                let lists : v.lists ≡ w.lists + 1 = ap (λ (x : Serializer). x.lists) d ∙ accepted_lists s room w h.sound (begin_list_call t) e in
+                omega arith
+            less (turn.Atom a) z k d e =
+                let lists : v.lists ≡ w.lists = ap (λ (x : Serializer). x.lists) d ∙ accepted_lists s room w h.sound (put_atom_call a.now (cond p.begins largest t)) e in
+                split (eqb p.i 0) (λ y. rw y (omega arith)) (λ y. rw y (omega arith))
 
-        -- where they are written, it is accepted
-        pub turn_can : writes ≡ true → CanMake call s w b
-        turn_can y =
-            let (o, e, more) = fits_first s room w call made.more (sym (ap (fits s room w) due) ∙ h.same.fit ∙ h.fit y) in
-            record { sound = h.sound; offset = o; accepts = sym (ap (λ (k : ℕ). (step s k w call).answer) (h.same.lent y)) ∙ e }
+        module _ {now : List ℕ} (wrote : now ≡ written_if writes b w.position (step s room w call).bytes) where
+          later : Same s writes room b₀ w₀ calls now v made.more
+          later = same_on (rw made.due at h.same) does wrote accepted
 
-        module _ {v : Serializer} {at : ℕ} (does : v ≡ (step s room w call).serializer) (accepted : (step s room w call).answer ≡ writer.Answer.accepted at) where
-          -- fewer nodes, or fewer open lists
-          pub turn_less : {j : ℕ} → j ≡ (passed words i cur end closes isList).i → 2 * (length words - j) + v.lists < 2 * (length words - i) + w.lists
-          unfolding passed turn_call item_call
-          turn_less {j} z =
-              let lists : v.lists ≡ lists_after call w.lists = ap (λ (x : Serializer). x.lists) does ∙ accepted_lists s room w h.sound call accepted in
-              split closes
-              (λ k.
-              let same : j ≡ i = z ∙ (split (eqb cur 0) (λ y. rw (k, y)) (λ y. rw (k, y))) in
-              let one : 0 < w.lists = closed_list s room w h.sound (rw k at accepted) in
-              let less : v.lists ≡ w.lists - 1 = rw k at lists in omega arith)
-              (λ k.
-              let there = turn_there k in
-              split isList
-              (λ l.
-              let next : j ≡ i + 1 = z ∙ rw (k, l) in
-              let more : v.lists ≡ w.lists + 1 = rw (k, l) at lists in omega arith)
-              (λ l.
-              let next : j ≡ i + 1 = z ∙ rw (k, l) in
-              let kept : v.lists ≡ w.lists = rw (k, l) at lists in omega arith))
+          first_is : (due : Option Place) → Begun s room w₀ calls due w h.rest → (o : ℕ) × (first_answer s room w₀ calls ≡ writer.Answer.accepted o)
+          unfolding first_answer
+          first_is due (not_yet q e) = (at, sym e ∙ ap (first_answer s room w) made.due ∙ accepted)
+          first_is due (answered_by o e) = (o, e)
 
-          module _ {now : List ℕ} (wrote : now ≡ written_if writes b w.position (step s room w call).bytes) where
-            later : Same s writes room b₀ w₀ calls now v made.more
-            later = same_on (rw due at h.same) does wrote accepted
-
-            pub turn_on : let p = passed words i cur end closes isList in (x : ℕ) × Walking s text words t writes room b₀ w₀ now v p.i p.list p.end p.begins p.left x
-            unfolding first_answer
-            turn_on = (
-              cond (eqb i 0) at o,
+          pub turn_on : Walking s text words t writes room b₀ w₀ now v (passed words p x)
+          turn_on =
+              let (o, e) = first_is due h.begun in
               record {
                 tree = h.tree;
                 decided = h.decided;
@@ -149,33 +159,28 @@ module _ {s : Style} {text words : List ℕ} {t : ℕ} {writes : Bool} {room : �
                 same = later;
                 fit = h.fit;
                 long = split writes (λ y. sym (later.lent y) ∙ h.same.lent y) (λ y. ap length (rw y at wrote)) ∙ h.long;
-                begun = λ z. absurd (let started = made.started in omega (arith, z));
-                offset = λ l.
-                    split (eqb i 0)
-                    (λ y. sym (h.begun (eqb-true i 0 y)) ∙ ap (first_answer s room w) due ∙ accepted ∙ rw y)
-                    (λ y. h.offset (let other = eqb-false i 0 y in omega arith) ∙ rw y);
-              },
-            )
+                begun = answered_by o e;
+              }
 
-        -- a call that was made as written
-        module _ (y : writes ≡ true) {v : Serializer} {now : List ℕ} (k : Makes call s w b v now) where
-          long_as : length b ≡ room
-          long_as = sym (h.same.lent y)
+      -- a call that was made as written
+      module _ (y : writes ≡ true) {v : Serializer} {now : List ℕ} (k : Makes call s w b v now) where
+        long_as : length b ≡ room
+        long_as = sym (h.same.lent y)
 
-          made_does : v ≡ (step s room w call).serializer
-          made_does = k.serializer ∙ ap (λ (n : ℕ). (step s n w call).serializer) long_as
+        made_does : v ≡ (step s room w call).serializer
+        made_does = k.serializer ∙ ap (λ (n : ℕ). (step s n w call).serializer) long_as
 
-          made_accepted : (step s room w call).answer ≡ writer.Answer.accepted (turn_can y).offset
-          made_accepted = sym (ap (λ (n : ℕ). (step s n w call).answer) long_as) ∙ (turn_can y).accepts
+        made_accepted : (step s room w call).answer ≡ writer.Answer.accepted (turn_can y).0
+        made_accepted = sym (ap (λ (n : ℕ). (step s n w call).answer) long_as) ∙ (turn_can y).1
 
-          made_wrote : now ≡ written_if writes b w.position (step s room w call).bytes
-          made_wrote = rw y (k.buffer ∙ ap (λ (n : ℕ). pasted b w.position (step s n w call).bytes) long_as)
+        made_wrote : now ≡ written_if writes b w.position (step s room w call).bytes
+        made_wrote = rw y (k.buffer ∙ ap (λ (n : ℕ). pasted b w.position (step s n w call).bytes) long_as)
 
-          pub made_less : {j : ℕ} → j ≡ (passed words i cur end closes isList).i → 2 * (length words - j) + v.lists < 2 * (length words - i) + w.lists
-          made_less z = turn_less made_does made_accepted z
+        pub made_less : turns_left words (passed words p x) v < turns_left words due w
+        made_less = turn_less made_does made_accepted
 
-          pub made_on : let p = passed words i cur end closes isList in (x : ℕ) × Walking s text words t writes room b₀ w₀ now v p.i p.list p.end p.begins p.left x
-          made_on = turn_on made_does made_accepted made_wrote
+        pub made_on : Walking s text words t writes room b₀ w₀ now v (passed words p x)
+        made_on = turn_on made_does made_accepted made_wrote
 
   -- ---- the walk ends
 
@@ -184,14 +189,13 @@ module _ {s : Style} {text words : List ℕ} {t : ℕ} {writes : Bool} {room : �
   walk_off f d = off (rw (the_tree d) at f)
 
   -- nothing is left
-  module _ (none : left ≡ false) where
-    ended : At words text t i cur end begins left h.rest → (h.rest ≡ []) × (0 < i)
-    ended (root n k zi zl ze zb l q) = absurd (false≢true (sym none ∙ l))
-    ended (inside c u v ze l q) = absurd (false≢true (sym none ∙ l))
-    ended (behind l q p) = (q, p)
-
+  module _ (none : due ≡ None) where
     over : h.rest ≡ []
-    over = (ended h.at).0
+    over = rw none at h.at
+
+    first_was : Begun s room w₀ calls due w h.rest → (o : ℕ) × (first_answer s room w₀ calls ≡ writer.Answer.accepted o)
+    first_was (not_yet q e) = absurd (let z = sym none ∙ q in cc)
+    first_was (answered_by o e) = (o, e)
 
     all_fit : fits s room w₀ calls ≡ true
     unfolding fits
@@ -203,7 +207,7 @@ module _ {s : Style} {text words : List ℕ} {t : ℕ} {writes : Bool} {room : �
 
     pub walk_all : {r : ℕ} → Starts s room w₀ t r → {n : Node} → decide text words ≡ some n → Finds s room w₀ (tree_calls text t n) (Some (record { serializer = w; offset = r }))
     walk_all starts d =
-        let first = h.offset (ended h.at).1 in
+        let first = (first_was h.begun).1 in
         rw (← the_tree d, ending) (all all_fit (first ∙ ap writer.Answer.accepted (sym (tree_starts s room w₀ text t h.tree first starts))))
 
     -- written, where that is wished

@@ -2,15 +2,17 @@
 -- Assumes nothing.
 use Rattle.std.specs.Prelude.{ℕ, Result, Ok, Err}
 use Rattle.sise_parser.specs.Refusals.{Refusal, refusal}
-use Rattle.sise_serializer.specs.declared.serializer.Serializer.{Serializer}
+use Rattle.sise_serializer.specs.declared.serializer.Wrote.{Wrote}
 use Rattle.sise_tree.specs.Answers.{Answer, answered, refused_with}
 use Rattle.sise_tree.specs.declared.tree.Held.{Held}
 use Rattle.sise_tree.specs.declared.tree.Held.TheVariants as held
 use Rattle.sise_tree.specs.declared.tree.Held.TheVariants.{Tree, NoAtom}
-use Rattle.sise_tree_writer.specs.declared.measure.Planned.{Planned}
-use Rattle.sise_tree_writer.specs.declared.serialize.TreeWrote.{TreeWrote}
 use Rattle.sise_tree_writer.specs.declared.serialize.WriteTreeError.{WriteTreeError}
 use Rattle.sise_tree_writer.specs.declared.serialize.WriteTreeError.TheVariants.{TextTooLong, UnsoundRecord, NotATree, InvalidAtom, WritingFinished, NoRoom, SizeChanged}
+
+-- what a call hands back that writes a tree
+abbrev pub TreeWrote : Type 0
+TreeWrote = Wrote WriteTreeError
 
 -- the number of each refusal
 abbrev pub error_number : WriteTreeError → ℕ
@@ -30,16 +32,6 @@ write_refusal e = refusal (error_number e) 0 0
 abbrev pub put_as : Result ℕ WriteTreeError → Answer
 put_as (Ok o) = answered o
 put_as (Err e) = refused_with (error_number e)
-
--- a refusal's number, and 0 where there is none, whatever the call answers
-abbrev pub answer_number : {T : Type 0} → Result T WriteTreeError → ℕ
-answer_number (Ok x) = 0
-answer_number (Err e) = error_number e
-
--- what a call on the record w hands back: a refusal leaves the record
-abbrev pub wrote_of : Serializer → Result Planned WriteTreeError → TreeWrote
-wrote_of w (Ok p) = record { serializer = p.serializer; answer = Ok p.offset }
-wrote_of w (Err e) = record { serializer = w; answer = Err e }
 
 -- the refusal of what a table holds that is no tree of atoms: 15 or 17
 abbrev pub refusal_of : Held → WriteTreeError

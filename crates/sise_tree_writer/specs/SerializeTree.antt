@@ -14,7 +14,7 @@ use Rattle.sise_tree.specs.Decision.{decide}
 use Rattle.sise_tree.specs.ParseTree.{longest}
 use Rattle.sise_tree.specs.Answers.{Answer, answered, refused_with}
 use Rattle.sise_tree_writer.specs.Answers.{put_as}
-use Rattle.sise_tree_writer.specs.declared.serialize.TreeWrote.{TreeWrote}
+use Rattle.sise_tree_writer.specs.Answers.{TreeWrote}
 
 unfoldable mutual
   -- a node's calls: an atom at the threshold a, "all else" at "the given one", t

@@ -6,10 +6,11 @@ use Rattle.sise_serializer.specs.declared.serializer.Serializer.{Serializer}
 use Rattle.sise_tree.specs.Answers.{Answer, answered, refused}
 use Rattle.sise_tree_writer.specs.Answers.{error_number}
 use Rattle.sise_tree_writer.specs.SerializeTree.{Writes, refuse, serialize_tree, DoesWrite}
-use Rattle.sise_tree_writer.specs.Writing.{write_text}
-use Rattle.sise_tree_writer.specs.declared.serialize.TreeWrote.{TreeWrote}
+use Rattle.sise_tree_writer.specs.Writing.{write_text, writes}
+use Rattle.sise_tree_writer.specs.Answers.{TreeWrote}
 use Rattle.sise_tree_writer.specs.declared.serialize.WriteTreeError.{WriteTreeError}
 use Rattle.sise_tree_writer.specs.declared.size.TreeSize.{TreeSize}
+use Rattle.sise_tree_writer.specs.declared.writing.Writing.{Writing}
 
 -- "an enquiry, which answers the bytes, breaks and indents that this tree would add, or the refusal", by its number
 pub data Enquiry : Type 0 where
@@ -75,7 +76,14 @@ CommitsTree s before w text words t m r now = DoesWrite (commit_tree s before w 
 abbrev pub CommitsText : Style → List ℕ → List ℕ → List ℕ → ℕ → Bool → Result TreeSize WriteTreeError → TreeWrote → List ℕ → Type 0
 CommitsText s before text words t wished m r now = DoesWrite (commit_text s before text words t wished (measured_as m)) r now
 
--- ---- what the private functions ask for
+-- ---- what the private functions ask for and promise
+
+-- of a writing x
+abbrev pub MeasuresWriting : Writing → ℕ → Serializer → Result TreeSize WriteTreeError → Type 0
+MeasuresWriting x room w m = (b : List ℕ) → length b ≡ room → measured_as m ≡ enquiry w (writes x b w)
+
+abbrev pub CommitsWriting : Writing → List ℕ → Serializer → Result TreeSize WriteTreeError → TreeWrote → List ℕ → Type 0
+CommitsWriting x before w m r now = DoesWrite (commit before w (writes x before w) (measured_as m)) r now
 
 -- no count of the record w is above that of v
 pub record Grown (w v : Serializer) : Type 0 where

@@ -1,55 +1,76 @@
 -- What the functions of a walk over a tree's calls do.
 -- Assumes nothing.
-use Rattle.std.specs.Prelude.{ℕ, ◌+◌, ◌-◌, ◌*◌, ◌≤◌, ◌≡◌, Bool, true, false, cond, List, [], ◌∷◌, ltb, eqb, length, Option, Some, None}
+use Rattle.std.specs.Prelude.{ℕ, ◌+◌, ◌-◌, ◌*◌, ◌≤◌, ◌≡◌, Bool, true, false, cond, List, [], ◌∷◌, eqb, length, Option, Some, None, ⊤}
+use Rattle.sise_util.specs.Atom.{is_atom}
 use Rattle.std.proofs.Math.Option.{some}
 use Rattle.sise_parser.specs.Reader.{part_of}
 use Rattle.sise_serializer.specs.Serializer as writer
 use Rattle.sise_serializer.specs.Serializer.{Style, is_sound}
-use Rattle.sise_serializer.specs.Calls.{Call, step, run}
+use Rattle.sise_serializer.specs.Calls.{Call, put_atom_call, begin_list_call, end_list_call, step, run}
 use Rattle.sise_serializer.specs.declared.serializer.Serializer.{Serializer}
 use Rattle.sise_tree.specs.Tree.{Node, kind, first, second, span}
 use Rattle.sise_tree.specs.Decision.{decide}
 use Rattle.sise_tree_writer.specs.SerializeTree.{tree_calls, fits}
 use Rattle.sise_tree_writer.specs.Writing.{Checked}
 use Rattle.sise_tree_writer.specs.declared.walk.Place.{Place}
-use Rattle.sise_tree_writer.specs.declared.measure.Planned.{Planned}
+use Rattle.sise_tree_writer.specs.declared.walk.Turn.{Turn}
+use Rattle.sise_tree_writer.specs.declared.walk.Turn.TheVariants as turn
+use Rattle.sise_serializer.specs.declared.serializer.Placed.{Placed}
 
--- node i is due and is a list
-abbrev pub opens_at : List ℕ → ℕ → Bool → Bool
-opens_at words i closes = cond closes false (eqb (kind words i) 0)
+-- the turn x is due at the place p: the innermost list ends there, or the next node is a list, or it is an atom of those bytes
+abbrev pub IsTurn : List ℕ → List ℕ → Place → Turn → Type 0
+IsTurn text words p turn.End = p.i ≡ p.end
+IsTurn text words p turn.List = (p.i ≡ p.end → ⊥) × (kind words p.i ≡ 0)
+IsTurn text words p (turn.Atom a) = (p.i ≡ p.end → ⊥) × (kind words p.i ≡ 0 → ⊥) × (a.now ≡ part_of text (first words p.i) (second words p.i))
 
--- the atom of node i, and none for a list or the end of one
-abbrev pub atom_at : List ℕ → List ℕ → ℕ → Bool → Bool → List ℕ
-atom_at text words i closes isList = cond closes [] (cond isList [] (part_of text (first words i) (second words i)))
+-- a node that is due at the place p is in the table, and an atom's bytes lie in the text
+pub record NodeIn (text words : List ℕ) (p : Place) : Type 0 where
+  pub there : (p.i ≡ p.end → ⊥) → 4 * (p.i + 1) ≤ length words
+  pub in_text : (p.i ≡ p.end → ⊥) → (kind words p.i ≡ 0 → ⊥) → first words p.i + second words p.i ≤ length text
 
--- node i is in the table, and its bytes lie in the text
-pub record AtomIn (text words : List ℕ) (i : ℕ) : Type 0 where
-  pub there : 4 * (i + 1) ≤ length words
-  pub in_text : first words i + second words i ≤ length text
+-- the innermost list may be left: its words are in the table, and so are those of the list around it
+pub record Leavable (words : List ℕ) (p : Place) : Type 0 where
+  pub listed : 4 * (p.list + 1) ≤ length words
+  pub away : (p.list ≡ 0 → ⊥) → second words p.list ≤ p.list
 
 -- a turn may be passed: the words that it leads to are in the table
-pub record Passable (words : List ℕ) (i list : ℕ) (closes : Bool) : Type 0 where
-  pub there : closes ≡ false → 4 * (i + 1) ≤ length words
-  pub listed : closes ≡ true → 4 * (list + 1) ≤ length words
-  pub away : closes ≡ true → (list ≡ 0 → ⊥) → second words list ≤ list
+abbrev pub Passable : List ℕ → Place → Turn → Type 0
+Passable words p turn.End = Leavable words p
+Passable words p turn.List = 4 * (p.i + 1) ≤ length words
+Passable words p (turn.Atom a) = 4 * (p.i + 1) ≤ length words
 
-abbrev place : ℕ → ℕ → ℕ → Bool → Bool → Place
-place i list end begins left = record { i = i; list = list; end = end; begins = begins; left = left }
+abbrev place : ℕ → ℕ → ℕ → Bool → Place
+place i list end begins = record { i = i; list = list; end = end; begins = begins }
 
 -- before the first node
 abbrev pub started : List ℕ → Place
-started words = place 0 0 (span words 0) false true
+started words = place 0 0 (span words 0) false
 
 -- where a walk is in the parent of a list that was closed
 abbrev outside : List ℕ → ℕ → ℕ → Place
-outside words i parent = place i parent (parent + span words parent) false true
+outside words i parent = place i parent (parent + span words parent) false
 
--- where a walk goes on: the innermost list is closed, which if it is the first node ends the walk; or the list at node i is entered; or its atom is passed
-unfoldable pub passed : List ℕ → ℕ → ℕ → ℕ → Bool → Bool → Place
-passed words i list end closes isList =
-    cond closes
-    (cond (eqb list 0) (place i list end false false) (outside words i (list - second words list)))
-    (cond isList (place (i + 1) i (i + span words i) true true) (place (i + 1) list end false (ltb 0 i)))
+-- the innermost list is left; that of the first node is the last
+unfoldable pub left_list : List ℕ → Place → Option Place
+left_list words p = cond (eqb p.list 0) None (Some (outside words p.i (p.list - second words p.list)))
+
+-- where a walk goes on: the innermost list is left, or the list at the next node is entered, or the atom there is passed, which if it is the first node ends it
+abbrev pub passed : List ℕ → Place → Turn → Option Place
+passed words p turn.End = left_list words p
+passed words p turn.List = Some (place (p.i + 1) p.i (p.i + span words p.i) true)
+passed words p (turn.Atom a) = cond (eqb p.i 0) None (Some (place (p.i + 1) p.list p.end false))
+
+-- the call of a turn, an atom's at the threshold a and a list's at t
+abbrev pub turn_call : Turn → ℕ → ℕ → Call
+turn_call turn.End a t = end_list_call
+turn_call turn.List a t = begin_list_call t
+turn_call (turn.Atom x) a t = put_atom_call x.now a
+
+-- an atom of a turn was checked
+abbrev pub GoodTurn : Turn → Type 0
+GoodTurn turn.End = ⊤
+GoodTurn turn.List = ⊤
+GoodTurn (turn.Atom a) = is_atom a.now ≡ true
 
 -- the record after calls that all fit
 unfoldable pub after : Style → ℕ → Serializer → List Call → Serializer
@@ -62,7 +83,7 @@ first_answer s room w [] = writer.Answer.refused 22
 first_answer s room w (c ∷ cs) = (step s room w c).answer
 
 -- what a walk finds of calls in a buffer of room bytes
-pub data Finds (s : Style) (room : ℕ) (w : Serializer) (cs : List Call) : Option Planned → Type 0 where
+pub data Finds (s : Style) (room : ℕ) (w : Serializer) (cs : List Call) : Option Placed → Type 0 where
   all : {o : ℕ} → fits s room w cs ≡ true → first_answer s room w cs ≡ writer.Answer.accepted o → Finds s room w cs (Some (record { serializer = after s room w cs; offset = o }))
   off : fits s room w cs ≡ false → Finds s room w cs None
 
@@ -72,7 +93,7 @@ pub record Walkable (w : Serializer) (text words : List ℕ) : Type 0 where
   pub checked : Checked text words
 
 -- what a walk that measures promises
-abbrev pub Walks : Style → ℕ → Serializer → List ℕ → List ℕ → ℕ → Option Planned → Type 0
+abbrev pub Walks : Style → ℕ → Serializer → List ℕ → List ℕ → ℕ → Option Placed → Type 0
 Walks s room w text words t r = (n : Node) → decide text words ≡ some n → Finds s room w (tree_calls text t n) r
 
 -- a walk that writes asks for a buffer in which the calls fit, too

@@ -3,16 +3,14 @@
 
 mod house;
 mod measure;
-mod plan;
 mod serialize;
 mod size;
 mod walk;
 mod whole;
 mod write;
+mod writing;
 
 pub use house::{HOUSE_THRESHOLD, serialize_house, serialize_house_at};
-pub use serialize::{
-    TreeWrote, WriteTreeError, answer_number, commit_tree, measure_tree, serialize_tree,
-};
+pub use serialize::{TreeWrote, WriteTreeError, commit_tree, measure_tree, serialize_tree};
 pub use size::TreeSize;
 pub use whole::{commit_text, measure_text, write_text};

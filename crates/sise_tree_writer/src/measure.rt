@@ -1,21 +1,16 @@
 // What the calls of a tree come to in a buffer of so many bytes, with no byte written.
+ghost use Rattle.std.specs.Prelude.{◌≡◌, true};
 ghost use Rattle.sise_serializer.specs.Serializer.{style_of};
-ghost use Rattle.sise_tree_writer.specs.Planning.{Starts};
-ghost use Rattle.sise_tree_writer.specs.Walking.{Walkable, Walks};
+ghost use Rattle.sise_tree_writer.specs.Planning.{behind_of, Plans, Starts};
+ghost use Rattle.sise_tree_writer.specs.Walking.{GoodTurn, turn_call, Walkable, Walks};
+ghost use Rattle.sise_tree_writer.specs.Writing.{line_of};
 
-use crate::plan::plan_turn;
-use crate::walk::{Place, atom_of, opens_list, pass, start, threshold};
-use sise_serializer::{Phase, Serializer, SerializerStyle, SoundSerializer, find_spot};
-use sise_tree::TreeTable;
+use crate::walk::{Place, Turn};
+use crate::writing::Writing;
+use sise_serializer::{Placed, Planned, Serializer, SerializerStyle, SoundSerializer, WriteError};
 
-// Calls that all fit: the record behind them, and the first one's offset.
-#[derive(Clone, Copy)]
-pub(crate) struct Planned {
-    pub(crate) serializer: Serializer,
-    pub(crate) offset: usize,
-}
-
-// The offset that a walk answers: its first call's, an item's at the given threshold, if that is accepted in a buffer of `room` bytes.
+// The offset that a walk answers: its first call's, an item's at the given threshold, if that is accepted in a buffer of `room` bytes. It is where a token of no
+// bytes would stand.
 fn first_offset(
     w: SoundSerializer,
     style: SerializerStyle<'_>,
@@ -24,50 +19,71 @@ fn first_offset(
 ) -> usize
     ensures { Starts (style_of style.entry) room w.serializer break_line_at result }
 {
-    let w = w.serializer;
-    if let Phase::Beginning = w.phase {
-        return w.position;
+    match w.plan_item(style, room, 0, false, break_line_at) {
+        Ok(planned) => planned.placed.offset,
+        Err(_) => w.serializer.position,
     }
-    if break_line_at <= w.line_len as u64 {
-        let lead = style.line_break.len();
-        let size = style.indentation.len();
-        return match find_spot(w.position, room, lead, w.lists, size, 0) {
-            Some(spot) => spot.at,
-            None => w.position,
-        };
-    }
-    w.position + usize::from(!w.list_beginning)
 }
 
-// Plans the tree's calls in a buffer of `room` bytes, up to the first that does not fit. The record is made anew from its fields: to copy the whole, with the
-// unused bytes in it, makes each turn wait for the memory.
-pub(crate) fn measure_nodes(
-    serializer: Serializer,
-    style: SerializerStyle<'_>,
+// The record behind a call that was planned, if it has room.
+#[inline(always)]
+pub(crate) fn behind(planned: Result<Planned, WriteError>) -> Option<Serializer>
+    ensures { result ≡ behind_of planned }
+{
+    planned.ok().map(|planned| planned.placed.serializer)
+}
+
+// One turn, whose call is planned in a buffer of `room` bytes.
+#[inline(always)]
+fn plan_turn(
+    writing: Writing<'_>,
+    w: SoundSerializer,
     room: usize,
-    tree: TreeTable<'_>,
-    break_line_at: u64,
-) -> Option<Planned>
-    requires { Walkable serializer tree.text.now tree.table.now }
-    ensures { Walks (style_of style.entry) room serializer tree.entry.text.now tree.entry.table.now break_line_at result }
+    turn: Turn<'_>,
+    begins: bool,
+) -> Option<Serializer>
+    requires { GoodTurn turn }
+    ensures { Plans (turn_call turn.entry (line_of writing.entry begins) writing.entry.break_line_at) (style_of writing.entry.style) room w.serializer result }
+{
+    let style = writing.style;
+    match turn {
+        Turn::End => behind(w.plan_end(style, room)),
+        Turn::List => behind(w.plan_item(style, room, 1, true, writing.break_line_at)),
+        Turn::Atom(atom) => {
+            let line = writing.threshold(begins);
+            behind(w.plan_item(style, room, atom.len(), false, line))
+        }
+    }
+}
+
+// Plans the tree's calls in a buffer of `room` bytes, up to the first that does not fit. There is no sequence to go over: a turn goes into a list, past an atom,
+// or back to the list around it. `..next` copies the other fields one by one: copied whole, with its unused bytes, the record makes each turn wait for the memory.
+pub(crate) fn measure_nodes(
+    writing: Writing<'_>,
+    serializer: Serializer,
+    room: usize,
+) -> Option<Placed>
+    requires { Walkable serializer writing.tree.text.now writing.tree.table.now }
+    ensures { Walks (style_of writing.entry.style) room serializer writing.entry.tree.text.now writing.entry.tree.table.now writing.entry.break_line_at result }
 {
     let mut w = Serializer {
         position: serializer.position,
         ..serializer
     };
-    let mut place = start(tree.table);
-    while place.left {
-        let closes = place.i == place.end;
-        let is_list = opens_list(tree.table, place.i, closes);
-        let atom = atom_of(tree, place.i, closes, is_list);
-        let line = threshold(is_list, place.begins, break_line_at);
+    let mut due = Some(Place::start(writing.tree));
+    while let Some(place) = due {
+        let turn = place.turn(writing.tree);
         let sound = SoundSerializer { serializer: w };
-        w = plan_turn(sound, style, room, atom, closes, is_list, line)?;
-        place = pass(tree.table, place, closes, is_list);
+        let next = plan_turn(writing, sound, room, turn, place.begins)?;
+        w = Serializer {
+            position: next.position,
+            ..next
+        };
+        due = place.pass(writing.tree, turn);
     }
     let sound = SoundSerializer { serializer };
-    let offset = first_offset(sound, style, room, break_line_at);
-    Some(Planned {
+    let offset = first_offset(sound, writing.style, room, writing.break_line_at);
+    Some(Placed {
         serializer: w,
         offset,
     })

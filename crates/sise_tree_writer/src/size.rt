@@ -34,8 +34,5 @@ pub(crate) fn is_size(
     requires { Grown before after }
     ensures { result ≡ same (measured_as measured) (added before after) }
 {
-    match measured {
-        Ok(size) => size == size_between(before, after),
-        Err(_) => false,
-    }
+    measured == Ok(size_between(before, after))
 }

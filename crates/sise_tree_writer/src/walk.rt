@@ -1,45 +1,27 @@
 // Steps of a walk over a table that holds a tree. A walk keeps the next node and the innermost open list, whose span says where it ends and whose third
 // word leads back to the list around it. At each turn it closes that list, or passes a node.
-ghost use Rattle.std.specs.Prelude.{◌≡◌, true, false, cond, ◌+◌, ◌*◌, ◌≤◌, length};
+ghost use Rattle.std.specs.Prelude.{◌≡◌, ◌+◌, ◌*◌, ◌≤◌, length};
 ghost use Rattle.sise_parser.specs.Reader.{part_of};
-ghost use Rattle.sise_serializer.specs.Calls.{largest};
-ghost use Rattle.sise_tree_writer.specs.Walking.{opens_at, atom_at, AtomIn, Passable, started, passed};
+ghost use Rattle.sise_tree.specs.NodeWords.{Words};
+ghost use Rattle.sise_tree_writer.specs.Walking.{NodeIn, IsTurn, Leavable, Passable, started, left_list, passed};
 
-use sise_tree::{TreeTable, wide};
+use sise_tree::{NodeWords, TreeTable, wide};
 
-// Where a walk is: the next node, the innermost open list and its end, whether a list has just begun, and whether anything is left.
-#[derive(Clone, Copy, Debug, PartialEq, Eq)]
-pub struct Place {
-    pub i: usize,
-    pub list: usize,
-    pub end: usize,
-    pub begins: bool,
-    pub left: bool,
+// What is due: the innermost list ends, a list begins, or an atom comes. Three cases, and no Option of one.
+#[derive(Clone, Copy)]
+pub(crate) enum Turn<'a> {
+    End,
+    List,
+    Atom(&'a [u8]),
 }
 
-// Where a walk begins: before the first node.
-pub(crate) fn start(table: &[u32]) -> Place
-    requires { 4 ≤ length table.now }
-    ensures { result ≡ started table.now }
-{
-    Place {
-        i: 0,
-        list: 0,
-        end: wide(table[3]),
-        begins: false,
-        left: true,
-    }
-}
-
-// Whether a turn begins a list: node `i` is due and is one.
-pub(crate) fn opens_list(table: &[u32], i: usize, closes: bool) -> bool
-    requires { closes ≡ false → 4 * (i + 1) ≤ length table.now }
-    ensures { result ≡ opens_at table.now i closes }
-{
-    if closes {
-        return false;
-    }
-    table[4 * i] == 0
+// Where a walk is: the next node, the innermost open list and its end, and whether that list has just begun.
+#[derive(Clone, Copy)]
+pub(crate) struct Place {
+    pub(crate) i: usize,
+    pub(crate) list: usize,
+    pub(crate) end: usize,
+    pub(crate) begins: bool,
 }
 
 // The `len` bytes from `place` on, which lie in the text.
@@ -50,68 +32,87 @@ fn part(text: &[u8], place: usize, len: usize) -> &[u8]
     &text[place..place + len]
 }
 
-// A turn's atom: node `i`'s, and none for a list or the end of one.
-pub(crate) fn atom_of<'a>(tree: TreeTable<'a>, i: usize, closes: bool, is_list: bool) -> &'a [u8]
-    requires { closes ≡ false → is_list ≡ false → AtomIn tree.text.now tree.table.now i }
-    ensures { result.now ≡ atom_at tree.entry.text.now tree.entry.table.now i closes is_list }
+// Node `i`'s words, which the table has.
+#[inline(always)]
+fn node(tree: TreeTable<'_>, i: usize) -> NodeWords
+    requires { 4 * (i + 1) ≤ length tree.table.now }
+    ensures { Words tree.entry.table.now i result }
 {
-    if closes || is_list {
-        return b"";
-    }
-    part(
-        tree.text,
-        wide(tree.table[4 * i + 1]),
-        wide(tree.table[4 * i + 2]),
-    )
+    tree.node(i).unwrap()
 }
 
-// The threshold of a turn: a list's, or an atom's, which at the beginning of a list is the largest: no line is that long.
-pub(crate) fn threshold(is_list: bool, begins: bool, break_line_at: u64) -> u64
-    ensures { result ≡ cond is_list break_line_at (cond begins largest break_line_at) }
-{
-    if is_list {
-        return break_line_at;
-    }
-    if begins { u64::MAX } else { break_line_at }
-}
-
-// Goes on past a turn: out of the innermost list, into the list that begins, or past an atom. The end of the first node ends the walk.
-pub(crate) fn pass(table: &[u32], place: Place, closes: bool, is_list: bool) -> Place
-    requires { Passable table.now place.i place.list closes }
-    ensures { result ≡ passed table.now place.i place.list place.end closes is_list }
-{
-    let i = place.i;
-    let list = place.list;
-    if closes {
-        if list == 0 {
-            return Place {
-                begins: false,
-                left: false,
-                ..place
-            };
-        }
-        let parent = list - wide(table[4 * list + 2]);
-        return Place {
-            i,
-            list: parent,
-            end: parent + wide(table[4 * parent + 3]),
+impl Place {
+    // Where a walk begins: before the first node.
+    pub(crate) fn start(tree: TreeTable<'_>) -> Place
+        requires { 4 ≤ length tree.table.now }
+        ensures { result ≡ started tree.entry.table.now }
+    {
+        Place {
+            i: 0,
+            list: 0,
+            end: wide(node(tree, 0).span),
             begins: false,
-            left: true,
-        };
+        }
     }
-    if is_list {
-        return Place {
-            i: i + 1,
-            list: i,
-            end: i + wide(table[4 * i + 3]),
-            begins: true,
-            left: true,
-        };
+
+    // The turn that is due.
+    #[inline(always)]
+    pub(crate) fn turn<'a>(self, tree: TreeTable<'a>) -> Turn<'a>
+        requires { NodeIn tree.text.now tree.table.now self }
+        ensures { IsTurn tree.entry.text.now tree.entry.table.now self result }
+    {
+        if self.i == self.end {
+            return Turn::End;
+        }
+        let node = node(tree, self.i);
+        if node.kind == 0 {
+            return Turn::List;
+        }
+        Turn::Atom(part(tree.text, wide(node.first), wide(node.second)))
     }
-    Place {
-        i: i + 1,
-        begins: false,
-        left: 0 < i,
-        ..place
+
+    // Goes on past a turn: out of the innermost list, into the list that begins, or past an atom. The end of the first node ends the walk.
+    #[inline(always)]
+    pub(crate) fn pass(self, tree: TreeTable<'_>, turn: Turn<'_>) -> Option<Place>
+        requires { Passable tree.table.now self turn }
+        ensures { result ≡ passed tree.entry.table.now self turn.entry }
+    {
+        match turn {
+            Turn::End => self.leave(tree),
+            Turn::List => Some(Place {
+                i: self.i + 1,
+                list: self.i,
+                end: self.i + wide(node(tree, self.i).span),
+                begins: true,
+            }),
+            Turn::Atom(_) => {
+                if self.i == 0 {
+                    return None;
+                }
+                Some(Place {
+                    i: self.i + 1,
+                    begins: false,
+                    ..self
+                })
+            }
+        }
+    }
+
+    // Out of the innermost list, into the one around it.
+    #[inline(always)]
+    fn leave(self, tree: TreeTable<'_>) -> Option<Place>
+        requires { Leavable tree.table.now self }
+        ensures { result ≡ left_list tree.entry.table.now self }
+    {
+        if self.list == 0 {
+            return None;
+        }
+        let parent = self.list - wide(node(tree, self.list).second);
+        Some(Place {
+            i: self.i,
+            list: parent,
+            end: parent + wide(node(tree, parent).span),
+            begins: false,
+        })
     }
 }

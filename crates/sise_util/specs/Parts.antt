@@ -1,16 +1,24 @@
 -- What the private functions of the check of an atom and of a character do.
 -- Assumes nothing.
-use Rattle.std.specs.Prelude.{◌≡◌, ℕ, ◌≤◌, ◌<◌, Bool, true, false, cond, List, eqb, ltb, length, take, drop, get_or}
-use Rattle.sise_util.specs.Atom.{outside, all_atom_chrs}
+use Rattle.std.specs.Prelude.{◌≡◌, ℕ, ◌≤◌, ◌<◌, true, false, cond, List, eqb, ltb, length, take, drop, get_or}
+use Rattle.sise_util.specs.Chars.{is_atom_chr}
+use Rattle.sise_util.specs.Atom.{outside, inside, ends_string, all_atom_chrs}
 
--- what the test says of the bytes behind a string that ends before place r, where 0 stands for no string
-unfoldable pub after_string : List ℕ → ℕ → Bool
-after_string s r = cond (eqb r 0) false (outside (drop r s))
+-- a string whose inside begins at `from` ends before place r: the bytes behind it decide whether the test passes, and whether it is the last of s
+pub record StringTo (s : List ℕ) (from r : ℕ) : Type 0 where
+  pub on : from < r
+  pub within : r ≤ length s
+  pub same : outside (drop r s) ≡ inside (drop from s)
+  pub whole : ends_string (drop from s) ≡ eqb r (length s)
 
 -- the first n bytes are atom characters
 pub record PlainTo (s : List ℕ) (n : ℕ) : Type 0 where
   pub within : n ≤ length s
   pub chrs : all_atom_chrs (take n s) ≡ true
+
+-- no atom character stands at n
+abbrev pub StopsAt : List ℕ → ℕ → Type 0
+StopsAt s n = n < length s → is_atom_chr (get_or s n 0) ≡ false
 
 -- 64 bits, one for each byte up to 63, or from 64 to 127: whether it is an atom character
 unfoldable pub mask_of : ℕ → ℕ

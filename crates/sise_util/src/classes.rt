@@ -1,5 +1,6 @@
 // The classes of bytes, by which the reader goes from state to state. Those that share an arm of a `match` of the reader have no neighbouring
 // numbers: neighbours would become a test of a range, and the arms' order would be another.
+// They are numbers and no enum: document 01 asks for a constant array of 256 class numbers.
 ghost use Rattle.std.specs.Prelude.{◌≡◌};
 ghost use Rattle.sise_util.specs.Classes.{class_of, class_number, class_table};
 

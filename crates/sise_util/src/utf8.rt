@@ -32,7 +32,7 @@ fn octet_at(text: &[u8], at: usize) -> u8
     text.get(at).copied().unwrap_or(0)
 }
 
-// The character of two octets.
+// The character of two octets. It, `three` and `four` each ask for a second octet of 0x80 or more: the rows of RFC 3629 that they serve say so one by one.
 fn two(lead: u8, second: u8) -> Result<Character, IllFormed>
     requires { (0xC0 ≤ lead) × (0x80 ≤ second) }
     ensures { result ≡ well ((lead - 0xC0) * 64 + (second - 0x80)) 2 }
@@ -57,7 +57,7 @@ fn three(lead: u8, second: u8, rest: &[u8]) -> Result<Character, IllFormed>
     }
 }
 
-// After two octets of a character of four: the two UTF8-tail that are due.
+// After two octets of a character of four: the two UTF8-tail that are due. It is no case of `three`: an octet more is read, tested and shifted in.
 fn four(lead: u8, second: u8, rest: &[u8]) -> Result<Character, IllFormed>
     requires { (0xF0 ≤ lead) × (0x80 ≤ second) }
     ensures { result ≡ follow ((lead - 0xF0) * 64 + (second - 0x80)) 4 (tail ∷ tail ∷ []) (drop 2 rest.now) }

@@ -1,8 +1,8 @@
 // The characters of atoms and strings, and the check of an atom.
-ghost use Rattle.std.specs.Prelude.{◌≡◌, ◌<◌, ◌&&◌, eqb, length, drop};
+ghost use Rattle.std.specs.Prelude.{◌≡◌, ◌<◌, ◌&&◌, false, eqb, length, drop, MatchOption};
 ghost use Rattle.sise_util.specs.Chars.{one_of, marks, is_atom_chr, is_string_chr, is_escaped_chr};
-ghost use Rattle.sise_util.specs.Atom.{inside, ends_string, kind_of, kind_number, kind_prefix};
-ghost use Rattle.sise_util.specs.Parts.{after_string, mask_of, PlainTo};
+ghost use Rattle.sise_util.specs.Atom.{inside, kind_of, kind_number, kind_prefix};
+ghost use Rattle.sise_util.specs.Parts.{mask_of, StringTo, PlainTo, StopsAt};
 
 // Which atom some bytes are, by the number that is such an atom's first word in a table.
 #[derive(Clone, Copy, Debug, PartialEq, Eq)]
@@ -15,7 +15,7 @@ pub enum AtomKind {
     Mixed = 3,
 }
 
-// The first word of such an atom in a table; 0 for no atom.
+// The first word of such an atom in a table; 0 for no atom. It is a number, since a table's words and C's answer are numbers.
 pub fn kind_number(kind: Option<AtomKind>) -> u32
     ensures { result ≡ kind_number kind }
 {
@@ -50,6 +50,7 @@ fn is_mark(chr: u8) -> bool
 }
 
 // Whether `chr` is an atom character outside a string. Small letters come first and marks last: the compiler tests the values of one `match` from below.
+// An atom is checked by it, since document 01 asks for a set of cases; is_atom_byte stands beside it for the reader's runs, which are faster by a mask.
 pub fn is_atom_chr(chr: u8) -> bool
     ensures { result ≡ is_atom_chr chr }
 {
@@ -110,81 +111,61 @@ fn is_escaped_chr(chr: u8) -> bool
     }
 }
 
-// The place behind the closing quote of a string whose inside begins at `from`, or 0 if no string is there. It is a loop of its own, and so short, since
-// a string may be long. It counts places by hand: an escape passes two bytes at once.
-fn string_end(atom: &[u8], from: usize) -> usize
-    ensures same { after_string atom.now result ≡ inside (drop from atom.now) }
-    ensures on { (result ≡ 0 → ⊥) → from < result }
-    ensures whole { (result ≡ 0 → ⊥) → ends_string (drop from atom.now) ≡ eqb result (length atom.now) }
+// The place behind the closing quote of a string whose inside begins at `from`, if one is there. It is a loop of its own, and so short, since a string may be
+// long. It counts places by hand: an escape passes two bytes, which a `for` over the bytes would have to keep in a flag.
+fn string_end(atom: &[u8], from: usize) -> Option<usize>
+    ensures { MatchOption result (inside (drop from atom.now) ≡ false) (StringTo atom.now from) }
 {
     let mut at = from;
     while at < atom.len() {
         let chr = atom[at];
         at += 1;
         if chr == b'"' {
-            return at;
+            return Some(at);
         }
         if chr == b'\\' {
             if atom.len() <= at || !is_escaped_chr(atom[at]) {
-                return 0;
+                return None;
             }
             at += 1;
         } else if !is_atom_string_chr(chr) {
-            return 0;
+            return None;
         }
     }
-    0
+    None
 }
 
-// The end of the atom characters that `atom` begins with: most atoms have no others. A loop over a run, so it goes by is_atom_byte; it counts by hand, since by
-// the iterator's `position`, which was tried, a check took a quarter longer.
+// The end of the atom characters that `atom` begins with: most atoms have no others.
 fn plain_end(atom: &[u8]) -> usize
-    ensures { PlainTo atom.now result }
+    ensures run { PlainTo atom.now result }
+    ensures stop { StopsAt atom.now result }
 {
-    let mut at = 0;
-    while at < atom.len() {
-        if !is_atom_byte(atom[at]) {
-            return at;
+    for (i, &byte) in atom.iter().enumerate() {
+        if !is_atom_chr(byte) {
+            return i;
         }
-        at += 1;
     }
-    at
+    atom.len()
 }
 
-// Which atom `atom` is, whose bytes before `from` are atom characters. The loop counts places by hand: a string is passed at once.
+// Which atom `atom` is, whose first byte that is no atom character stands at `from`.
+// The loop counts places by hand: each turn passes a string and the atom characters behind it, and no iterator goes by such steps.
 fn kind_from(atom: &[u8], from: usize) -> Option<AtomKind>
-    requires { PlainTo atom.now from }
+    requires { (from < length atom.now) × PlainTo atom.now from × StopsAt atom.now from }
     ensures { result ≡ kind_of atom.now }
 {
-    if atom.len() == 0 {
-        return None;
-    }
     let mut at = from;
-    let mut quoted = false;
     while at < atom.len() {
-        let chr = atom[at];
-        if is_atom_chr(chr) {
-            at += 1;
-        } else {
-            if chr != b'"' {
-                return None;
-            }
-            let end = string_end(atom, at + 1);
-            if end == 0 {
-                return None;
-            }
-            if is_whole(at, end, atom.len()) {
-                return Some(AtomKind::String);
-            }
-            at = end;
-            quoted = true;
+        if atom[at] != b'"' {
+            return None;
         }
+        let end = string_end(atom, at + 1)?;
+        if is_whole(at, end, atom.len()) {
+            return Some(AtomKind::String);
+        }
+        at = end + plain_end(&atom[end..]);
     }
-    if quoted {
-        Some(AtomKind::Mixed)
-    } else {
-        Some(AtomKind::Plain)
-    }
+    Some(AtomKind::Mixed)
 }
 
 // Which atom `atom` is: one or more atom characters and strings, or no atom.
@@ -192,10 +173,13 @@ pub fn check_atom(atom: &[u8]) -> Option<AtomKind>
     ensures { result ≡ kind_of atom.now }
 {
     let end = plain_end(atom);
-    if end != 0 && end == atom.len() {
-        return Some(AtomKind::Plain);
+    if end < atom.len() {
+        return kind_from(atom, end);
     }
-    kind_from(atom, end)
+    if end == 0 {
+        return None;
+    }
+    Some(AtomKind::Plain)
 }
 
 // Whether a string from `at` to `end` is all of `len` bytes.
@@ -206,6 +190,7 @@ fn is_whole(at: usize, end: usize, len: usize) -> bool
 }
 
 // Which atom the first `len` bytes of `rest` are, a text from an atom's first byte on; a length past its end is none.
+// The length stands beside the slice, since a table's words name an atom's place and length, and the length may be past the end.
 pub fn check_atom_prefix(rest: &[u8], len: usize) -> Option<AtomKind>
     ensures { result ≡ kind_prefix rest.now len }
 {

@@ -1,18 +1,15 @@
--- The letter and the three numbers stand one behind the other.
-use Rattle.std.proofs.Common.{◌≡◌, ◌∷◌, ◌++◌, ℕ}
+-- The letter and all three numbers stand one behind the other.
+use Rattle.std.proofs.Common.{◌≡◌, refl, ◌∙◌, ap, [], ◌∷◌, append_assoc}
+use Rattle.std.proofs.lemmas.List.{append-nil}
 use Rattle.sise_parser.specs.Refusals.{Refusal}
-use Rattle.lines.specs.Put.{Output, put, number}
-use Rattle.lines.proofs.Laws.{put_both}
+use Rattle.lines.specs.Put.{Output, put, numbers_text}
+use Rattle.lines.specs.Put as lines
 use Rattle.replay_reader.specs.Text.{refusal_text}
 use Rattle.replay_reader.proofs.put_refusal.Goals as goal
 
-text_of : (o : Output) {p q s : Output} {n place code : ℕ} (r : Refusal) → n ≡ r.number → place ≡ r.place → code ≡ r.code
-    → p ≡ put o (33 ∷ number n) → q ≡ put p (number place) → s ≡ put q (number code) → s ≡ put o (refusal_text r)
-unfolding refusal_text
-text_of o r d e f i j k =
-    put_both o (33 ∷ (number r.number ++ number r.place)) (number r.code)
-    (put_both o (33 ∷ number r.number) (number r.place) (rw d at i) (rw e at j))
-    (rw f at k)
+text_of : (r : Refusal) → lines.refusal_text (33 ∷ []) 3 r ≡ refusal_text r
+unfolding refusal_text lines.refusal_text numbers_text
+text_of r = rw (append-nil, append_assoc) refl
 
 pub returns : goal.returns
-returns g c = text_of _ _ c.number.ensures c.place.ensures c.code.ensures c.put_letter.ensures c.put_number.ensures c.put_number-2.ensures
+returns g c = c.put_refusal.ensures ∙ ap (put _) (text_of _)

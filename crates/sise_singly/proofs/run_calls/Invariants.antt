@@ -4,4 +4,4 @@ use Rattle.sise_serializer.proofs.Running.{Left}
 use Rattle.sise_singly.proofs.run_calls.Given as goal
 
 abbrev pub invariant-loop-k : goal.invariant-loop-k
-invariant-loop-k l = Left fresh_serializer (style_of l.style) l.words l.atoms l.initial.buf l.initial.answers l.buf l.answers l.w l.k l.at
+invariant-loop-k l = Left fresh_serializer (style_of l.style) l.words l.atoms l.initial.buf l.initial.answers l.buf l.answers l.w l.k l.rest

@@ -1,17 +1,20 @@
--- What follows the letter lies after it.
-use Rattle.std.proofs.lemmas.Result.{IfOk-weaker}
-use Rattle.script.proofs.Laws.{onward_both, onward_byte, call_after}
+-- The letter, and the number behind it.
+use Rattle.std.proofs.Common.{◌≡◌, refl, ◌∙◌, ap, List, [], ◌∷◌, ℕ}
+use Rattle.script.specs.Numbers.{Field, LetterLine}
+use Rattle.script.proofs.Laws.{line_one}
 use Rattle.script.proofs.Script.read_call.Goals as goal
 
-pub returns-then-letter-eq65 : goal.returns-then-letter-eq65
-returns-then-letter-eq65 c =
-    IfOk-weaker c.read_atom_call.result _ _ (λ call. call_after _ call (onward_byte _ c.in-Some.ensures)) c.read_atom_call.ensures
+behind : {s t u : List ℕ} {a b n m : ℕ} → s ≡ a ∷ t → a ≡ b → Field 10 t n u → n ≡ m → LetterLine b s (m ∷ []) u
+behind {s} {t} {u} e f p g = (t, e ∙ ap (λ (x : ℕ). x ∷ t) f, line_one p g)
 
 pub returns-in-40-default : goal.returns-in-40-default
-returns-in-40-default c = onward_both (onward_byte _ c.in-Some.ensures) c.in_ok-number.ensures
+returns-in-40-default c = (_, c.meant.ensures, behind c.in-Some.ensures c.in-40-default.is-0 c.in_ok-number.ensures refl)
 
 pub returns-in-41-eq0 : goal.returns-in-41-eq0
-returns-in-41-eq0 c = onward_both (onward_byte _ c.in-Some.ensures) c.in_ok-number.ensures
+returns-in-41-eq0 c = behind c.in-Some.ensures c.in-41-eq0.is-0 c.in_ok-number.ensures c.in-41-eq0.is-1
 
 pub returns-in-70-eq0 : goal.returns-in-70-eq0
-returns-in-70-eq0 c = onward_both (onward_byte _ c.in-Some.ensures) c.in_ok-number.ensures
+returns-in-70-eq0 c = behind c.in-Some.ensures c.in-70-eq0.is-0 c.in_ok-number.ensures c.in-70-eq0.is-1
+
+pub returns-in-70-eq1 : goal.returns-in-70-eq1
+returns-in-70-eq1 c = behind c.in-Some.ensures c.in-70-eq1.is-0 c.in_ok-number.ensures c.in-70-eq1.is-1

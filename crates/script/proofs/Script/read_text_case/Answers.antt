@@ -1,12 +1,12 @@
--- Each number lies after the last, and the text after them.
-use Rattle.std.proofs.Common.{arith}
-use Rattle.script.proofs.Laws.{onward_both, onward_as}
+-- The line's three numbers, and the text behind them.
+use Rattle.std.proofs.Common.{refl, arith}
+use Rattle.script.proofs.Laws.{line_first, line_more, line_last}
 use Rattle.script.proofs.Script.read_text_case.Goals as goal
 
 pub returns : goal.returns
 returns c = (
-  onward_as
-      (onward_both c.in_ok-len.ensures (onward_both c.in_ok-calls.ensures c.in_ok-last.ensures))
-      c.in_ok-text.ensures,
+  line_first _ _ _ c.in_ok-len.ensures c.in_ok-text.ensures.len
+      (line_more _ _ _ c.in_ok-calls.ensures refl
+      (line_last c.in_ok-last.ensures c.in_ok-text.ensures.front)),
   omega arith,
 )

@@ -31,19 +31,10 @@ four l at a b c d h =
     ∙ pasted_cons l₃ (at + 3) d [] (omega (arith, h, s₃))
     ∙ pasted_none (set l₃ (at + 3) d) (at + 3 + 1))
 
-pub bounds-words-at-2 : goal.bounds-words-at-2
-bounds-words-at-2 c = simp length-set (omega (arith, c.requires))
-
-pub bounds-words-at-3 : goal.bounds-words-at-3
-bounds-words-at-3 c = simp length-set (omega (arith, c.requires))
-
-pub bounds-words-at-4 : goal.bounds-words-at-4
-bounds-words-at-4 c = simp length-set (omega (arith, c.requires))
-
 words_are : {l : List ℕ} (i : ParsedItem) → l ≡ item_words i → get_or l 0 0 ∷ get_or l 1 0 ∷ get_or l 2 0 ∷ get_or l 3 0 ∷ [] ≡ item_words i
 words_are (Atom p n) e = rw e refl
 words_are (ListStart p) e = rw e refl
 words_are (ListEnd p) e = rw e refl
 
 pub returns : goal.returns
-returns c = four _ _ _ _ _ _ (omega (arith, c.requires)) ∙ ap (pasted c.args.words.now (4 * c.args.items)) (words_are c.args.item c.item_words.ensures)
+returns c = λ h. four _ _ _ _ _ _ (omega (arith, h)) ∙ ap (pasted c.args.words.now (4 * c.args.items)) (words_are c.args.item c.item_words.ensures)

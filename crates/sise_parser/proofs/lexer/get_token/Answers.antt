@@ -24,7 +24,7 @@ pub token-preserved : goal.token-preserved
 token-preserved c = record { same = c.comment.invariant.same ∙ comment_line_end c.class_at.ensures c.in-4.is }
 
 pub comment-preserved : goal.comment-preserved
-comment-preserved c = record { after = omega arith; same = c.comment.invariant.same ∙ comment_on c.class_at.ensures c.in_default-class_at.in_default-class_at-own.rest }
+comment-preserved c = record { after = omega arith; same = c.comment.invariant.same ∙ comment_on c.class_at.ensures search }
 
 pub returns-then-text-at : goal.returns-then-text-at
 returns-then-text-at c = sym (c.token.invariant.same ∙ between_end _ c.if-text-at.true)
@@ -57,10 +57,6 @@ returns-else-byte-eq34 c =
     ∙ sym
     (c.token.invariant.same
     ∙ between_wrong _ _ c.if-text-at.false
-    c.in_default.in_default-own.rest.0.0.0.0.1
-    c.in_default.in_default-own.rest.0.0.0.1
-    c.in_default.in_default-own.rest.0.0.1
-    c.in_default.in_default-own.rest.0.1
-    c.in_default.in_default-own.rest.1
+    (search) (search) (search) (search) (search)
     (sym c.is_atom_byte.ensures ∙ c.if-is_atom_byte.false)
     c.if-byte-eq34.false)

@@ -1,8 +1,9 @@
 -- `sise_parser::is_blank` meets its contract: the four bytes are those of the three classes that are blanks.
 use mathlib.Core.Path.{◌≡◌, refl, sym, ap, ◌∙◌}
 use mathlib.Core.Bool.{false}
-use mathlib.Core.Logic.{⊎_elim, inl, inr}
+use mathlib.Core.Logic.{⊎_elim}
 use Prim.Native.Nat.{ℕ}
+use native.Mathlib.Omega.{arith}
 use borrow.Author.Tests.{ne_eqb, eqb-false}
 use Rattle.sise_util.specs.Chars.{one_of}
 use Rattle.sise_util.specs.Classes.{Class, space, quote, tab, atom_chr, line_end, backslash, other, semicolon, left, right, printable, class_of, class_number}
@@ -36,4 +37,4 @@ unfolding class_of
 returns-in-9 c = ⊎_elim (λ e. rw e) (λ e. rw e) c.in-9.is
 
 pub returns-in_default : goal.returns-in_default
-returns-in_default c = let n = c.in_default.in_default-own.rest in other_byte c.args.byte (λ e. n.0.1 (inr e)) (λ e. n.0.1 (inl e)) (λ e. n.1 (inl e)) (λ e. n.1 (inr e))
+returns-in_default c = other_byte c.args.byte (grind arith) (grind arith) (grind arith) (grind arith)

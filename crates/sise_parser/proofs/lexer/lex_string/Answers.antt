@@ -53,7 +53,7 @@ loop-at-preserved-in_default-class_at c =
       same = λ s.
           c.loop-at.invariant.same s
           ∙ string_backslash c.class_at.ensures s c.in-5.is
-          ∙ escape_on c.class_at-in-5.ensures s c.in_default-class_at.in_default-class_at-own.rest;
+          ∙ escape_on c.class_at-in-5.ensures s search;
     }
 
 pub returns-in-2 : goal.returns-in-2
@@ -68,5 +68,5 @@ loop-at-preserved c =
     record {
       after = omega arith;
       within = omega arith;
-      same = λ s. c.loop-at.invariant.same s ∙ string_on c.class_at.ensures s c.in_default.in_default-own.rest;
+      same = λ s. c.loop-at.invariant.same s ∙ string_on c.class_at.ensures s search;
     }

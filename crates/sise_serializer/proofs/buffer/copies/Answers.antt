@@ -23,10 +23,7 @@ room k times at to s buf e h r = omega (arith, repeat_length k s, mul-le-mul_rig
 pub returns-in-Some : goal.returns-in-Some
 returns-in-Some c =
     let a = c.args in
-    record {
-      value = ap (λ (n : ℕ). a.at + n) (sym (repeat_length a.times a.src.now));
-      buf_after = pasted_part _ _ _ _ _ (uniform a.times c.in-Some.byte a.src.now _ c.in-Some.ensures (search rules) (c.fill.ensures.after (λ y h. search rules))) (omega (arith, repeat_length a.times a.src.now));
-    }
+    pasted_part _ _ _ _ _ (uniform a.times c.in-Some.byte a.src.now _ c.in-Some.ensures (search rules) (c.fill.ensures.after (λ y h. search rules))) (omega (arith, repeat_length a.times a.src.now))
 
 pub loop-init : goal.loop-init
 loop-init c = (sym (pasted_none c.args.buf.now c.args.at), omega arith, refl)
@@ -52,4 +49,4 @@ pub returns : goal.returns
 returns c =
     let a = c.args in
     let all : c.loop.counter ≡ a.times = omega arith in
-    record { value = ap (λ (n : ℕ). a.at + n) (sym (repeat_length a.times a.src.now)); buf_after = rw (← all) c.loop.invariant.0 }
+    rw (← all) c.loop.invariant.0

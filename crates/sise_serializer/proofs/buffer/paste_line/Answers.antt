@@ -30,7 +30,7 @@ returns-then-has_room c =
     let a = c.args in
     let e = sym c.has_room.ensures ∙ c.if-has_room.true in
     let size = layout_length a.style.line_break.now a.times a.style.indentation.now in
-    c.write_line.ensures.buf_after ∙ sym (pasted_if_lem a.buf.now a.at (a.style.line_break.now ++ repeat a.times a.style.indentation.now) (omega (arith, leb-true, size, c.if-buf-at.false, c.if-left-style.false)))
+    c.write_line.ensures ∙ sym (pasted_if_lem a.buf.now a.at (a.style.line_break.now ++ repeat a.times a.style.indentation.now) (omega (arith, leb-true, size, c.if-buf-at.false, c.if-left-style.false)))
 
 pub returns-else-has_room : goal.returns-else-has_room
 returns-else-has_room c =

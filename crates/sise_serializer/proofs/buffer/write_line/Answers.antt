@@ -22,7 +22,4 @@ returns c =
     let text = a.style.line_break.now in
     let steps = repeat a.times a.style.indentation.now in
     let size = length-append text steps in
-    record {
-      value = c.copies.ensures.value ∙ omega (arith, size);
-      buf_after = c.copies.ensures.buf_after ∙ rw c.copy.ensures (pasted_more a.buf.now a.at text (omega (arith, size)) steps);
-    }
+    c.copies.ensures ∙ rw c.copy.ensures (pasted_more a.buf.now a.at text (omega (arith, size)) steps)

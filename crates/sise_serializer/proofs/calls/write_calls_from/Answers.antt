@@ -1,7 +1,7 @@
 -- Before each turn, running what is left of the words from here leaves what running all of them leaves.
 use mathlib.Core.Path.{◌≡◌, sym, ap, ◌∙◌}
 use Rattle.sise_serializer.specs.Words.{answer_word}
-use Rattle.sise_serializer.proofs.Running.{start, none_runs, full, stopped, has_room, on}
+use Rattle.sise_serializer.proofs.Running.{start, none_runs, full, stopped, on}
 use native.Mathlib.Omega.{arith}
 use lib.ListN.{length}
 use Rattle.std.proofs.lemmas.List.{set-get_or}
@@ -11,25 +11,19 @@ pub returns-then-not-is_sound : goal.returns-then-not-is_sound
 returns-then-not-is_sound c = none_runs _ _ _ _ _ _ (sym c.is_sound.ensures ∙ c.if-not-is_sound.true)
 
 pub loop-k-init : goal.loop-k-init
-loop-k-init c = start _ _ _ _ _ _ (sym c.is_sound.ensures ∙ c.if-not-is_sound.false)
+loop-k-init c = rw c.by_fields-serializer.ensures (start _ _ _ _ _ _ (sym c.is_sound.ensures ∙ c.if-not-is_sound.false))
 
-pub returns-then-not-has_call : goal.returns-then-not-has_call
-returns-then-not-has_call c = rw (set-get_or c.loop-k.answers c.loop-k.k 0) (stopped c.loop-k.invariant (sym c.has_call.ensures ∙ c.if-not-has_call.true))
+pub returns-in_default : goal.returns-in_default
+returns-in_default c = rw (set-get_or c.loop-k.answers c.loop-k.k 0) (stopped c.loop-k.invariant c.in_default.ensures)
 
 pub invariant_of-run_call : goal.invariant_of-run_call
 invariant_of-run_call c = record { sound = c.loop-k.invariant.sound }
 
-pub run_call-placed-requires : goal.run_call-placed-requires
-run_call-placed-requires c = has_room _ _ c.loop-k.invariant.place (sym c.has_call.ensures ∙ c.if-not-has_call.false)
-
-pub overflow_add-at : goal.overflow_add-at
-overflow_add-at c = let room = has_room _ _ c.loop-k.invariant.place (sym c.has_call.ensures ∙ c.if-not-has_call.false) in omega arith
-
 pub loop-k-preserved : goal.loop-k-preserved
 loop-k-preserved c =
     let does = rw (← c.wrote-wrote.ensures) at c.run_call-placed.ensures in
-    on c.loop-k.invariant (omega arith) (sym c.has_call.ensures ∙ c.if-not-has_call.false)
-    does.serializer (c.put_word.ensures ∙ ap answer_word does.answer) does.buffer c.run_call-placed.auto.buf
+    on c.loop-k.invariant _ c.in-Some.behind.now (omega arith) c.in-Some.ensures.0
+    (c.by_fields-serializer-in-loop-k.ensures ∙ does.serializer) (c.put_word.ensures ∙ ap answer_word does.answer) does.buffer c.run_call-placed.auto.buf
 
 pub returns : goal.returns
 returns c =

@@ -1,28 +1,22 @@
--- Each return is the definition's answer, at the phase; an open list is closed by the test of its breaks.
+-- The plan of the `)` is carried out: its layout is written, and itself right behind that; or it is refused.
 use native.Mathlib.Omega.{arith}
-use mathlib.Core.Path.{refl}
-use Rattle.sise_serializer.specs.Serializer.{close_as, end_in}
-use Rattle.sise_serializer.proofs.Sound.{sound, writing_lists}
-use Rattle.sise_serializer.proofs.Does.{refused_does, end_in_lem, end_refused, close_broken, close_unbroken}
+use mathlib.Core.List.{[], ◌∷◌}
+use Rattle.sise_serializer.specs.Serializer.{style_of}
+use Rattle.sise_serializer.proofs.Bytes.{pasted_one}
+use Rattle.sise_serializer.proofs.Plans.{carried_out, refused_plan}
 use Rattle.sise_serializer.proofs.serializer.close_list.Goals as goal
 
-pub returns-in-Beginning : goal.returns-in-Beginning
-unfolding end_in
-returns-in-Beginning c = let a = c.args in rw (end_in_lem _ _ a.w.serializer a.w.sound c.in-Beginning.is) (refused_does a.w.serializer a.buf.now 18 refl)
+pub returns-in_err-planned : goal.returns-in_err-planned
+returns-in_err-planned c = let a = c.args in refused_plan (style_of a.style) a.w.serializer (41 ∷ []) a.buf.now _ _ c.in_err-planned.ensures c.from_residual.ensures.1
 
-pub close_on_new_line-requires-clause-open : goal.close_on_new_line-requires-clause-open
-close_on_new_line-requires-clause-open c = writing_lists c.args.w.serializer c.args.w.sound c.in-Writing.is
+pub write_layout-requires : goal.write_layout-requires
+write_layout-requires c = let f = c.in_ok-planned.ensures in omega (arith, f.offset, f.in_room)
 
-pub returns-then-w : goal.returns-then-w
-unfolding end_in
-returns-then-w c = let a = c.args in rw (end_in_lem _ _ a.w.serializer a.w.sound c.in-Writing.is, close_broken _ a.w.serializer c.if-w.true) c.close_on_new_line.ensures
+pub bounds-buf-planned : goal.bounds-buf-planned
+bounds-buf-planned c = let f = c.in_ok-planned.ensures in omega (arith, f.in_room)
 
-pub close_in_line-requires : goal.close_in_line-requires
-close_in_line-requires c = let unequal = c.if-w.false in let few = (sound _ c.args.w.sound).checked.broken in omega arith
-
-pub returns-else-w : goal.returns-else-w
-unfolding close_as end_in
-returns-else-w c = let a = c.args in rw (end_in_lem _ _ a.w.serializer a.w.sound c.in-Writing.is, close_unbroken _ a.w.serializer c.if-w.false) c.close_in_line.ensures
-
-pub returns-in-Finished : goal.returns-in-Finished
-returns-in-Finished c = let a = c.args in rw (end_refused _ _ a.w.serializer a.w.sound c.in-Finished.is) (refused_does a.w.serializer a.buf.now 19 refl)
+pub returns : goal.returns
+returns c =
+    let a = c.args in
+    let f = c.in_ok-planned.ensures in
+    carried_out (style_of a.style) a.w.serializer (41 ∷ []) a.buf.now f c.write_layout.ensures (pasted_one _ _ 41 (omega (arith, f.in_room)))

@@ -1,16 +1,19 @@
--- Each return is the definition's answer, at the phase; only a finished text goes on to `last`.
-use mathlib.Core.Path.{refl}
-use Rattle.sise_serializer.specs.Serializer.{finish_in}
-use Rattle.sise_serializer.proofs.Does.{refused_does, finish_in_lem, finish_early}
+-- The plan of the end is carried out: its line break is written, if wished; or it is refused.
+use native.Mathlib.Omega.{arith}
+use mathlib.Core.Path.{sym}
+use mathlib.Core.List.{[]}
+use Rattle.sise_serializer.specs.Serializer.{style_of}
+use Rattle.sise_serializer.proofs.Bytes.{pasted_none}
+use Rattle.sise_serializer.proofs.Plans.{carried_out, refused_plan}
 use Rattle.sise_serializer.proofs.serializer.finish_text.Goals as goal
 
-pub returns-in-Beginning : goal.returns-in-Beginning
-returns-in-Beginning c = let a = c.args in rw (finish_early _ _ a.w.serializer a.w.sound _ c.in-Beginning.is) (refused_does a.w.serializer a.buf.now 20 refl)
+pub returns-in_err-planned : goal.returns-in_err-planned
+returns-in_err-planned c = let a = c.args in refused_plan (style_of a.style) a.w.serializer [] a.buf.now _ _ c.in_err-planned.ensures c.from_residual.ensures.1
 
-pub returns-in-Finished : goal.returns-in-Finished
-unfolding finish_in
-returns-in-Finished c = let a = c.args in rw (finish_in_lem _ _ a.w.serializer a.w.sound _ c.in-Finished.is) c.last.ensures
+pub write_layout-requires : goal.write_layout-requires
+write_layout-requires c = let f = c.in_ok-planned.ensures in omega (arith, f.offset, f.in_room)
 
-pub returns-in-Done : goal.returns-in-Done
-unfolding finish_in
-returns-in-Done c = let a = c.args in rw (finish_in_lem _ _ a.w.serializer a.w.sound _ c.in-Done.is) (refused_does a.w.serializer a.buf.now 19 refl)
+pub returns : goal.returns
+returns c =
+    let a = c.args in
+    carried_out (style_of a.style) a.w.serializer [] a.buf.now c.in_ok-planned.ensures c.write_layout.ensures (sym (pasted_none _ c.in_ok-planned.planned.placed.offset))

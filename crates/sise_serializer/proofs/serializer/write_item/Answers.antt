@@ -1,23 +1,23 @@
--- Each return is the definition's answer, at the phase; in a list the threshold picks the gap.
-use mathlib.Core.Path.{refl}
+-- The item's plan is carried out: its layout is written, and its token right behind that; or it is refused.
+use native.Mathlib.Omega.{arith}
+use mathlib.Core.Path.{sym}
 use Rattle.sise_serializer.specs.Serializer.{style_of}
-use Rattle.sise_serializer.proofs.Does.{refused_does, item_first, item_on_new_line, item_in_line, item_refused}
+use Rattle.sise_serializer.proofs.Plans.{carried_out, refused_plan}
 use Rattle.sise_serializer.proofs.serializer.write_item.Goals as goal
 
-pub returns-in-Beginning : goal.returns-in-Beginning
-returns-in-Beginning g c = let a = c.args in rw (item_first (style_of a.style) _ a.w.serializer (g.T.Token.bytes a.token) g.T.Token.is_list a.break_line_at c.in-Beginning.is) c.first.ensures
-
-pub returns-then-break_line_at-w : goal.returns-then-break_line_at-w
-returns-then-break_line_at-w g c =
+pub returns-in_err-planned : goal.returns-in_err-planned
+returns-in_err-planned g c =
     let a = c.args in
-    rw (item_on_new_line (style_of a.style) _ a.w.serializer (g.T.Token.bytes a.token) g.T.Token.is_list a.break_line_at c.in-Writing.is c.if-break_line_at-w.true) c.on_new_line.ensures
+    rw (← c.is_list.ensures) (refused_plan (style_of a.style) a.w.serializer (g.T.Token.bytes a.token) a.buf.now _ _ (c.in_err-planned.ensures (g.T.Token.bytes a.token) (sym c.len.ensures)) c.from_residual.ensures.1)
 
-pub returns-else-break_line_at-w : goal.returns-else-break_line_at-w
-returns-else-break_line_at-w g c =
-    let a = c.args in
-    rw (item_in_line (style_of a.style) _ a.w.serializer (g.T.Token.bytes a.token) g.T.Token.is_list a.break_line_at c.in-Writing.is c.if-break_line_at-w.false) c.in_line.ensures
+pub write_layout-requires : goal.write_layout-requires
+write_layout-requires g c = let f = c.in_ok-planned.ensures (g.T.Token.bytes c.args.token) (sym c.len.ensures) in omega (arith, f.offset, f.in_room)
 
-pub returns-in-Finished : goal.returns-in-Finished
-returns-in-Finished g c =
+pub put-requires : goal.put-requires
+put-requires g c = let f = c.in_ok-planned.ensures (g.T.Token.bytes c.args.token) (sym c.len.ensures) in omega (arith, f.in_room)
+
+pub returns : goal.returns
+returns g c =
     let a = c.args in
-    rw (item_refused (style_of a.style) _ a.w.serializer (g.T.Token.bytes a.token) g.T.Token.is_list a.break_line_at c.in-Finished.is) (refused_does a.w.serializer a.buf.now 19 refl)
+    let token = g.T.Token.bytes a.token in
+    rw (← c.is_list.ensures) (carried_out (style_of a.style) a.w.serializer token a.buf.now (c.in_ok-planned.ensures token (sym c.len.ensures)) c.write_layout.ensures c.put.ensures)

@@ -1,7 +1,10 @@
 -- Each way through the loop is one law of the counting's state; the position, which each item moves, measures what is left.
 use native.Mathlib.Omega.{arith}
-use mathlib.Core.Path.{refl, ap, ◌∙◌}
+use mathlib.Core.Path.{ap, ◌∙◌}
 use Rattle.std.specs.Prelude.{Ok}
+use Rattle.sise_tree.specs.Answers as answers
+use Rattle.sise_tree.specs.Answers.{tree_refusal}
+use Rattle.sise_tree.specs.declared.parse.TreeError.{TreeError}
 use Rattle.sise_tree.specs.ParseTree.{top}
 use Rattle.sise_tree.proofs.ReadSteps.{called, took}
 use Rattle.sise_tree.proofs.Counting.{counts_none, depth_le, refused_ends, start_goes, atom_ends, atom_goes, close_ends, list_ends, list_goes}
@@ -73,7 +76,7 @@ loop-item-preserved c =
 pub returns-in-Err : goal.returns-in-Err
 returns-in-Err c =
     let h = c.loop-item.invariant.1 in
-    refused_ends _ _ h (called c.next_item-next.result c.next_item-next.ensures c.in-Err.is) refl
+    refused_ends _ _ h (called c.next_item-next.result c.next_item-next.ensures c.in-Err.is) (ap (λ (e : TreeError). answers.refused (tree_refusal e)) c.into.ensures)
 
 pub returns-then-depth-eq0 : goal.returns-then-depth-eq0
 returns-then-depth-eq0 c =

@@ -33,43 +33,8 @@ one_more {words} {left} {at} {end} {run} fit k l e told other r one =
       within = omega arith;
     }
 
-pub loop-run-init : goal.loop-run-init
-loop-run-init c = none _ _ _ _ c.requires.1
-
-pub overflow_add-at : goal.overflow_add-at
-overflow_add-at c = omega (arith, c.loop-run.invariant.within)
-
-pub overflow_add-at-in-loop-run : goal.overflow_add-at-in-loop-run
-overflow_add-at-in-loop-run c = omega (arith, c.loop-run.invariant.within)
-
-pub is_list-requires : goal.is_list-requires
-is_list-requires c = omega (arith, c.requires.0, c.if-at-run.true)
-
-pub returns-then-is_list : goal.returns-then-is_list
-returns-then-is_list c = let k = c.loop-run.invariant in record { same = k.same; few = k.few; within = k.within }
-
-pub overflow_add-at-in-loop-run-2 : goal.overflow_add-at-in-loop-run-2
-overflow_add-at-in-loop-run-2 c = omega (arith, c.loop-run.invariant.within)
-
-pub word-requires : goal.word-requires
-word-requires c = omega (arith, c.requires.0, c.if-at-run.true)
-
-pub returns-then-word-ne1 : goal.returns-then-word-ne1
-returns-then-word-ne1 c = let k = c.loop-run.invariant in record { same = k.same; few = k.few; within = k.within }
-
-pub overflow_add-run : goal.overflow_add-run
-overflow_add-run c = omega arith
-
-pub loop-run-smaller : goal.loop-run-smaller
-loop-run-smaller c = omega arith
-
 pub loop-run-preserved : goal.loop-run-preserved
 loop-run-preserved c =
-    one_more c.requires.0 c.loop-run.invariant c.loop-run-test.true c.if-at-run.true
+    let most : c.min-most.result ≤ c.args.end - c.args.at = omega (arith, c.min-most.ensures) in
+    one_more c.requires.0 c.loop-run.invariant (omega (arith, c.loop-run-test.true, c.min-most.ensures)) (omega (arith, c.loop-run-test.true, c.min-most.ensures))
     c.is_list.ensures c.if-is_list.false c.word.ensures.same c.if-word-ne1.false
-
-pub returns-else-at-run : goal.returns-else-at-run
-returns-else-at-run c = let k = c.loop-run.invariant in record { same = k.same; few = k.few; within = k.within }
-
-pub returns-after-loop-run : goal.returns-after-loop-run
-returns-after-loop-run c = let k = c.loop-run.invariant in record { same = k.same; few = k.few; within = k.within }

@@ -1,5 +1,5 @@
 -- Each node of span 1 that is no list leaves one node less to step over, and one place on: what is left has the whole's answer.
-use Prim.Native.Nat.{ℕ, ◌+◌, ◌-◌, ◌≤◌}
+use Prim.Native.Nat.{ℕ, ◌+◌, ◌≤◌}
 use mathlib.Core.List.{List}
 use Rattle.sise_tree.specs.Parts.{SameFrom}
 use Rattle.sise_tree.proofs.tree.singles.Given as goal
@@ -12,6 +12,3 @@ pub record Counted (words : List ℕ) (left at end run : ℕ) : Type 0 where
 
 abbrev pub invariant-loop-run : goal.invariant-loop-run
 invariant-loop-run l = Counted l.table l.left l.at l.end l.run
-
-abbrev pub decreases-loop-run : goal.decreases-loop-run
-decreases-loop-run l = l.left - l.run

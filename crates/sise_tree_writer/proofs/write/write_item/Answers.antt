@@ -1,25 +1,23 @@
--- The call is accepted, so its piece has room: the first item's, or one in a list, where the threshold picks the gap.
-use mathlib.Core.Path.{◌∙◌}
+-- The item is accepted, so its piece has room: the first item's, or one in a list, where the threshold picks the gap.
 use Rattle.sise_serializer.specs.Serializer.{style_of}
-use Rattle.sise_serializer.proofs.Does.{new_line_is, in_line_is}
-use Rattle.sise_tree_writer.specs.Planning.{token_of}
-use Rattle.sise_tree_writer.proofs.Made.{itself, has_room, makes, first_piece, inner_piece}
+use Rattle.sise_serializer.proofs.Does.{item_first, item_on_new_line, item_in_line}
+use Rattle.sise_tree_writer.proofs.Planned.{has_room, done, item_writing}
 use Rattle.sise_tree_writer.proofs.write.write_item.Goals as goal
 
 pub write_first-requires : goal.write_first-requires
-write_first-requires c = let a = c.args in let this = first_piece (style_of a.style) a.w.serializer a.atom.now a.break_line_at a.is_list (itself c.requires).its c.in-Beginning.is in has_room c.requires this
+write_first-requires c = let a = c.args in has_room _ _ _ c.requires (item_first (style_of a.style) _ a.w.serializer a.token.now a.is_list a.break_line_at c.in-Beginning.is)
 
 pub returns-in-Beginning : goal.returns-in-Beginning
-returns-in-Beginning c = let a = c.args in let this = first_piece (style_of a.style) a.w.serializer a.atom.now a.break_line_at a.is_list (itself c.requires).its c.in-Beginning.is in makes c.requires this c.write_first.ensures
+returns-in-Beginning c = let a = c.args in done _ _ _ c.requires (item_first (style_of a.style) _ a.w.serializer a.token.now a.is_list a.break_line_at c.in-Beginning.is) c.write_first.ensures
 
 pub write_on_new_line-requires : goal.write_on_new_line-requires
-write_on_new_line-requires c = let a = c.args in let this = inner_piece (style_of a.style) a.w.serializer a.atom.now a.break_line_at a.is_list (itself c.requires).its c.in_default.not-Beginning ∙ new_line_is (style_of a.style) a.w.serializer (token_of a.is_list a.atom.now) a.is_list a.break_line_at c.if-break_line_at-w.true in has_room c.requires this
+write_on_new_line-requires c = let a = c.args in has_room _ _ _ c.requires (item_on_new_line (style_of a.style) _ a.w.serializer a.token.now a.is_list a.break_line_at (item_writing (style_of a.style) _ a.w.serializer a.token.now a.is_list a.break_line_at c.requires c.in_default.not-Beginning) c.if-break_line_at-w.true)
 
 pub returns-then-break_line_at-w : goal.returns-then-break_line_at-w
-returns-then-break_line_at-w c = let a = c.args in let this = inner_piece (style_of a.style) a.w.serializer a.atom.now a.break_line_at a.is_list (itself c.requires).its c.in_default.not-Beginning ∙ new_line_is (style_of a.style) a.w.serializer (token_of a.is_list a.atom.now) a.is_list a.break_line_at c.if-break_line_at-w.true in makes c.requires this c.write_on_new_line.ensures
+returns-then-break_line_at-w c = let a = c.args in done _ _ _ c.requires (item_on_new_line (style_of a.style) _ a.w.serializer a.token.now a.is_list a.break_line_at (item_writing (style_of a.style) _ a.w.serializer a.token.now a.is_list a.break_line_at c.requires c.in_default.not-Beginning) c.if-break_line_at-w.true) c.write_on_new_line.ensures
 
 pub write_in_line-requires : goal.write_in_line-requires
-write_in_line-requires c = let a = c.args in let this = inner_piece (style_of a.style) a.w.serializer a.atom.now a.break_line_at a.is_list (itself c.requires).its c.in_default.not-Beginning ∙ in_line_is (style_of a.style) a.w.serializer (token_of a.is_list a.atom.now) a.is_list a.break_line_at c.if-break_line_at-w.false in has_room c.requires this
+write_in_line-requires c = let a = c.args in has_room _ _ _ c.requires (item_in_line (style_of a.style) _ a.w.serializer a.token.now a.is_list a.break_line_at (item_writing (style_of a.style) _ a.w.serializer a.token.now a.is_list a.break_line_at c.requires c.in_default.not-Beginning) c.if-break_line_at-w.false)
 
 pub returns : goal.returns
-returns c = let a = c.args in let this = inner_piece (style_of a.style) a.w.serializer a.atom.now a.break_line_at a.is_list (itself c.requires).its c.in_default.not-Beginning ∙ in_line_is (style_of a.style) a.w.serializer (token_of a.is_list a.atom.now) a.is_list a.break_line_at c.if-break_line_at-w.false in makes c.requires this c.write_in_line.ensures
+returns c = let a = c.args in done _ _ _ c.requires (item_in_line (style_of a.style) _ a.w.serializer a.token.now a.is_list a.break_line_at (item_writing (style_of a.style) _ a.w.serializer a.token.now a.is_list a.break_line_at c.requires c.in_default.not-Beginning) c.if-break_line_at-w.false) c.write_in_line.ensures

@@ -2,7 +2,7 @@
 use Prim.Native.Nat.{ℕ, ◌≤◌, ◌<◌}
 use mathlib.Core.Path.{◌≡◌}
 use mathlib.Core.Bool.{true, false}
-use mathlib.Core.Logic.{inl, inr, ⊎_elim}
+use mathlib.Core.Logic.{⊎_elim}
 use native.Mathlib.Omega.{arith}
 use lib.Dec.{ltb}
 use borrow.Author.Tests.{ltb-true, ltb-false}
@@ -25,7 +25,7 @@ returns-in-34 c =
     c.in-34.is
 
 pub returns-in-32-to-126 : goal.returns-in-32-to-126
-returns-in-32-to-126 c = printable _ (λ e. c.in-32-to-126.in_default-own.rest.1 (inl e)) (λ e. c.in-32-to-126.in_default-own.rest.1 (inr e)) (omega arith) (omega arith)
+returns-in-32-to-126 c = printable _ (grind arith) (grind arith) (omega arith) (omega arith)
 
 pub returns-in_default : goal.returns-in_default
 returns-in_default c = valued is_string_chr false 0 32 (unfold is_string_chr in tt) (omega arith) (omega arith)

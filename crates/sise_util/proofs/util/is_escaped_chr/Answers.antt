@@ -1,7 +1,7 @@
 -- `sise_util::is_escaped_chr` meets its contract: the definition, test by test.
 use mathlib.Core.Bool.{true}
 use mathlib.Core.Path.{sym, ◌∙◌}
-use mathlib.Core.Logic.{inl, inr, ⊎_elim}
+use mathlib.Core.Logic.{⊎_elim}
 use native.Mathlib.Omega.{arith}
 use borrow.Author.Tests.{ne_eqb}
 use Rattle.sise_util.specs.Chars.{is_escaped_chr}
@@ -19,4 +19,4 @@ returns-in-34 c =
 pub returns-in_default : goal.returns-in_default
 returns-in_default c =
     c.is_atom_string_chr.ensures
-    ∙ sym (escaped_chr _ ∙ rw (ne_eqb _ 34 (λ e. c.in_default.in_default-own.rest.1 (inl e)), ne_eqb _ 92 (λ e. c.in_default.in_default-own.rest.1 (inr e))))
+    ∙ sym (escaped_chr _ ∙ rw (ne_eqb c.args.chr 34 (grind arith), ne_eqb c.args.chr 92 (grind arith)))

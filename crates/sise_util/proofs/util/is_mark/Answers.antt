@@ -2,7 +2,7 @@
 use Prim.Native.Nat.{ℕ, ◌≤◌, ◌<◌}
 use mathlib.Core.Path.{◌≡◌}
 use mathlib.Core.Bool.{true, false}
-use mathlib.Core.Logic.{inl, inr, ⊎_elim}
+use mathlib.Core.Logic.{⊎_elim}
 use native.Mathlib.Omega.{arith}
 use lib.Dec.{ltb}
 use borrow.Author.Tests.{ltb-true, ltb-false}
@@ -18,7 +18,7 @@ high b q k lo hi =
     (λ e. valued_but (one_of marks) false 126 126 130 (unfold one_of marks in tt) (unfold one_of marks in tt) k (omega (arith, ltb-false)) (omega arith))
 
 pub returns-in_default : goal.returns-in_default
-returns-in_default c = valued_but (one_of marks) false 33 0 35 (unfold one_of marks in tt) (unfold one_of marks in tt) (λ e. c.in_default.in_default-own.rest.1 (inl e)) (omega arith) (omega arith)
+returns-in_default c = valued_but (one_of marks) false 33 0 35 (unfold one_of marks in tt) (unfold one_of marks in tt) (grind arith) (omega arith) (omega arith)
 
 pub returns-in_default-2 : goal.returns-in_default-2
 returns-in_default-2 c = valued (one_of marks) false 39 3 (unfold one_of marks in tt) (omega arith) (omega arith)
@@ -27,10 +27,10 @@ pub returns-in_default-3 : goal.returns-in_default-3
 returns-in_default-3 c = valued (one_of marks) false 44 1 (unfold one_of marks in tt) (omega arith) (omega arith)
 
 pub returns-in_default-4 : goal.returns-in_default-4
-returns-in_default-4 c = valued_but (one_of marks) false 58 48 12 (unfold one_of marks in tt) (unfold one_of marks in tt) (λ e. c.in_default.in_default-own.rest.1 (inr (inl e))) (omega arith) (omega arith)
+returns-in_default-4 c = valued_but (one_of marks) false 58 48 12 (unfold one_of marks in tt) (unfold one_of marks in tt) (grind arith) (omega arith) (omega arith)
 
 pub returns-in_default-5 : goal.returns-in_default-5
-returns-in_default-5 c = high _ (λ e. c.in_default.in_default-own.rest.1 (inr (inr (inl e)))) (λ e. c.in_default.in_default-own.rest.1 (inr (inr (inr e)))) (omega arith) (omega arith)
+returns-in_default-5 c = high _ (grind arith) (grind arith) (omega arith) (omega arith)
 
 pub returns-in-33 : goal.returns-in-33
 returns-in-33 c =

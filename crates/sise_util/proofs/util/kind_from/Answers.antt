@@ -1,41 +1,43 @@
--- What the loop keeps: what the test says outside strings of the bytes that are left is what it says of the whole atom, and whether a `"` was met. A string is
--- passed as one; if it is all, the atom is that string.
-use mathlib.Core.Path.{◌≡◌, refl, sym, ap, ◌∙◌}
-use mathlib.Core.Bool.{Bool, true, false, cond, ◌&&◌, ◌||◌, false≢true}
+-- Each turn passes a string and the atom characters behind it, by what the test says at a `"`; at the end of the atom it has a `"` and is more than one string.
+use mathlib.Core.Path.{◌≡◌, sym, ap, ◌∙◌, subst}
+use mathlib.Core.Bool.{true, false, cond, ◌&&◌}
 use mathlib.Core.List.{List, [], ◌∷◌}
-use Prim.Native.Nat.{ℕ, ◌+◌, ◌≤◌, ◌<◌}
+use Prim.Native.Nat.{ℕ, zero, suc, ◌+◌, ◌≤◌, ◌<◌}
 use native.Mathlib.Omega.{arith}
 use lib.Dec.{eqb}
-use lib.ListN.{length, drop, get_or, drop_of_length-le}
+use lib.ListN.{length, drop, get_or, drop_of_length-le, length-drop}
 use borrow.Author.Tests.{eq-eqb, ne_eqb, eqb-true, eqb-false}
+use Rattle.std.specs.Prelude.{Some, None}
+use Rattle.std.proofs.lemmas.List.{take_rest, drop-drop, get_or-drop}
 use Rattle.sise_util.specs.Chars.{is_atom_chr}
 use Rattle.sise_util.specs.Atom.{outside, inside, is_atom, has_quote, ends_string, is_string, kind_of}
-use Rattle.std.specs.Prelude.{Some, None}
-use Rattle.sise_util.specs.declared.util.AtomKind.TheVariants.{Plain, String, Mixed}
-use Rattle.sise_util.specs.Parts.{after_string, PlainTo}
+use Rattle.sise_util.specs.declared.util.AtomKind.TheVariants.{String, Mixed}
+use Rattle.sise_util.specs.Parts.{StringTo, PlainTo, StopsAt}
 use Rattle.sise_util.proofs.Lists.{drop-next}
 use Rattle.sise_util.proofs.Ranges.{split, and_first, and_second}
 use Rattle.sise_util.proofs.AtomLaws.{outside_cons, plain_passes}
-use Rattle.sise_util.proofs.PlainRuns.{some_atom, quotes_after, no_string}
-use Rattle.sise_util.proofs.KindLaws.{kind_no, kind_plain, kind_string, kind_mixed}
+use Rattle.sise_util.proofs.PlainRuns.{some_atom, no_string}
+use Rattle.sise_util.proofs.KindLaws.{kind_no, kind_string, kind_mixed}
 use Rattle.sise_util.proofs.util.kind_from.Invariants.{Due}
 use Rattle.sise_util.proofs.util.kind_from.Goals as goal
 
--- a quote is no atom character
-not_quote : (b : ℕ) → is_atom_chr b ≡ true → b ≡ 34 → ⊥
-unfolding is_atom_chr
-not_quote b a q = false≢true (ap is_atom_chr (sym q) ∙ a)
+-- a `"` that stands in some bytes is among them
+quote_at : (s : List ℕ) (n : ℕ) → n < length s → get_or s n 0 ≡ 34 → has_quote s ≡ true
+unfolding has_quote
+quote_at [] n h e = absurd (omega arith)
+quote_at (b ∷ l) zero h e = rw (eq-eqb b 34 e)
+quote_at (b ∷ l) (suc n) h e = split (eqb b 34) (λ q. rw q) (λ q. rw q (quote_at l n (omega arith) e))
 
-or_true : (x : Bool) → x || true ≡ true
-or_true true = refl
-or_true false = refl
+-- the run of atom characters behind place e of s, in the words of s
+module _ (s : List ℕ) (e : ℕ) {n : ℕ} (p : PlainTo (drop e s) n) where
+  run_passed : outside (drop (e + n) s) ≡ outside (drop e s)
+  run_passed = ap outside (sym (drop-drop n e s)) ∙ plain_passes (drop e s) n p.chrs
 
-or_none : (x : Bool) → x || false ≡ x
-or_none true = refl
-or_none false = refl
+  run_stops : StopsAt (drop e s) n → StopsAt s (e + n)
+  run_stops k h = sym (ap is_atom_chr (get_or-drop e s n 0)) ∙ k (omega (arith, length-drop e s))
 
 -- the steps of the test at the byte b, after which l is left
-module _ {s : List ℕ} {at : ℕ} {quoted : Bool} (d : Due s at quoted) (h : at < length s) where
+module _ {s : List ℕ} {at : ℕ} (d : Due s at) (h : at < length s) where
   abbrev b : ℕ
   b = get_or s at 0
 
@@ -45,40 +47,22 @@ module _ {s : List ℕ} {at : ℕ} {quoted : Bool} (d : Due s at quoted) (h : at
   out : cond (eqb b 34) (inside l) (cond (is_atom_chr b) (outside l) false) ≡ is_atom s
   out = sym (ap outside (drop-next s at h) ∙ outside_cons b l) ∙ d.same
 
-  here : has_quote s ≡ quoted || (eqb b 34 || has_quote l)
-  unfolding has_quote
-  here = d.quotes ∙ ap (λ (m : List ℕ). quoted || has_quote m) (drop-next s at h)
+  stopped : (b ≡ 34 → ⊥) → None ≡ kind_of s
+  stopped q = kind_no s (sym (rw (ne_eqb b 34 q, d.stop h) at out))
 
-  -- at the first byte, by the rest
-  string_here : at ≡ 0 → is_string s ≡ (eqb b 34 && ends_string l)
-  unfolding is_string
-  string_here z = ap is_string (sym (ap (λ (n : ℕ). drop n s) z) ∙ drop-next s at h)
+  module _ (q : b ≡ 34) where
+    string_due : inside l ≡ is_atom s
+    string_due = rw (eq-eqb b 34 q) at out
 
-  on : is_atom_chr b ≡ true → Due s (at + 1) quoted
-  on a =
-      let q = ne_eqb b 34 (not_quote b a) in
-      record {
-        same = rw (q, a) at out;
-        quotes = rw q at here;
-        begun = λ _. split (eqb at 0) (λ e. string_here (eqb-true at 0 e) ∙ rw q) (λ e. d.begun (eqb-false at 0 e));
-      }
+    unclosed : inside l ≡ false → None ≡ kind_of s
+    unclosed e = kind_no s (sym string_due ∙ e)
 
-  stop : is_atom_chr b ≡ false → (b ≡ 34 → ⊥) → None ≡ kind_of s
-  stop a q = kind_no s (sym (rw (ne_eqb b 34 q, a) at out))
+    -- at the first byte, by the rest
+    string_here : at ≡ 0 → is_string s ≡ ends_string l
+    unfolding is_string
+    string_here z = ap is_string (sym (ap (λ (n : ℕ). drop n s) z) ∙ drop-next s at h) ∙ rw (eq-eqb b 34 q)
 
-  quoted_here : b ≡ 34 → has_quote s ≡ true
-  quoted_here q = (rw (eq-eqb b 34 q) at here) ∙ or_true quoted
-
-  module _ (q : b ≡ 34) {r : ℕ} (e : after_string s r ≡ inside l) where
-    rest : (r ≡ 0 → ⊥) → outside (drop r s) ≡ is_atom s
-    unfolding after_string
-    rest z = (rw (ne_eqb r 0 z) at e) ∙ (rw (eq-eqb b 34 q) at out)
-
-    open_end : r ≡ 0 → None ≡ kind_of s
-    unfolding after_string
-    open_end z = kind_no s (sym ((rw (eq-eqb r 0 z) at e) ∙ (rw (eq-eqb b 34 q) at out)))
-
-    module _ (z : r ≡ 0 → ⊥) (w : ends_string l ≡ eqb r (length s)) where
+    module _ {r : ℕ} (t : StringTo s (at + 1) r) where
       -- all of it
       whole : (eqb at 0 && eqb r (length s)) ≡ true → Some String ≡ kind_of s
       unfolding outside
@@ -86,68 +70,44 @@ module _ {s : List ℕ} {at : ℕ} {quoted : Bool} (d : Due s at quoted) (h : at
           let first = eqb-true at 0 (and_first (eqb at 0) (eqb r (length s)) k) in
           let all = and_second (eqb at 0) (eqb r (length s)) k in
           let end : length s ≤ r = omega (arith, eqb-true r (length s) all) in
-          kind_string s (sym (rest z) ∙ ap outside (drop_of_length-le s end)) (quoted_here q) (string_here first ∙ rw (eq-eqb b 34 q) (w ∙ all))
+          kind_string s (sym string_due ∙ sym t.same ∙ ap outside (drop_of_length-le s end)) (quote_at s at h q) (string_here first ∙ t.whole ∙ all)
 
-      passed : (eqb at 0 && eqb r (length s)) ≡ false → Due s r true
-      passed k = record {
-        same = rest z;
-        quotes = quoted_here q;
+      passed : {n : ℕ} → (eqb at 0 && eqb r (length s)) ≡ false → PlainTo (drop r s) n → StopsAt (drop r s) n → Due s (r + n)
+      passed k p stops = record {
+        same = run_passed s r p ∙ t.same ∙ string_due;
+        stop = run_stops s r p stops;
         begun = λ _.
             split (eqb at 0)
-            (λ f. string_here (eqb-true at 0 f) ∙ rw (eq-eqb b 34 q) (w ∙ rw f at k))
+            (λ f. string_here (eqb-true at 0 f) ∙ t.whole ∙ (rw f at k))
             (λ f. d.begun (eqb-false at 0 f));
+        quoted = λ _. quote_at s at h q;
       }
 
--- all is read: a quote was met or not
-module _ {s : List ℕ} {at : ℕ} {quoted : Bool} (d : Due s at quoted) (h : length s ≤ at) (some : length s ≡ 0 → ⊥) where
-  is-atom : is_atom s ≡ true
-  unfolding outside
-  is-atom = sym d.same ∙ ap outside (drop_of_length-le s h)
+starts : {s : List ℕ} {n : ℕ} → n < length s → PlainTo s n → StopsAt s n → Due s n
+starts {s} {n} h p k = record { same = plain_passes s n p.chrs ∙ some_atom s (λ z. absurd (omega arith)); stop = k; begun = no_string s n p.chrs; quoted = λ z. absurd (omega arith) }
 
-  has : has_quote s ≡ quoted
-  unfolding has_quote
-  has = d.quotes ∙ ap (λ (m : List ℕ). quoted || has_quote m) (drop_of_length-le s h) ∙ or_none quoted
-
-  mixed : quoted ≡ true → Some Mixed ≡ kind_of s
-  mixed e = kind_mixed s is-atom (has ∙ e) (d.begun (λ (z : at ≡ 0). some (omega (arith, h, z))))
-
-  plain : quoted ≡ false → Some Plain ≡ kind_of s
-  plain e = kind_plain s is-atom (has ∙ e)
-
-empty : (s : List ℕ) → length s ≡ 0 → None ≡ kind_of s
-unfolding is_atom
-empty [] h = kind_no [] refl
-empty (b ∷ l) h = absurd (omega arith)
-
-starts : {s : List ℕ} {n : ℕ} → (length s ≡ 0 → ⊥) → PlainTo s n → Due s n false
-starts {s} {n} h p = record { same = plain_passes s n p.chrs ∙ some_atom s h; quotes = quotes_after s n p.chrs; begun = no_string s n p.chrs }
-
-pub returns-then-atom-eq0 : goal.returns-then-atom-eq0
-returns-then-atom-eq0 c = empty _ c.if-atom-eq0.true
+ended : {s : List ℕ} {at : ℕ} → Due s at → length s ≤ at → 0 < length s → Some Mixed ≡ kind_of s
+unfolding outside
+ended {s} {at} d h some = kind_mixed s (sym d.same ∙ ap outside (drop_of_length-le s h)) (d.quoted h) (d.begun (λ z. absurd (omega arith)))
 
 pub loop-at-init : goal.loop-at-init
-loop-at-init c = starts c.if-atom-eq0.false c.requires
+loop-at-init c = starts c.requires.0 c.requires.1 c.requires.2
 
-pub loop-at-preserved-then-is_atom_chr : goal.loop-at-preserved-then-is_atom_chr
-loop-at-preserved-then-is_atom_chr c = on c.loop-at.invariant (omega arith) (sym c.is_atom_chr.ensures ∙ c.if-is_atom_chr.true)
+pub returns-then-atom-at-ne34 : goal.returns-then-atom-at-ne34
+returns-then-atom-at-ne34 c = stopped c.loop-at.invariant c.loop-at-test.true c.if-atom-at-ne34.true
 
-pub returns-then-chr-ne34 : goal.returns-then-chr-ne34
-returns-then-chr-ne34 c = stop c.loop-at.invariant (omega arith) (sym c.is_atom_chr.ensures ∙ c.if-is_atom_chr.false) c.if-chr-ne34.true
-
-pub returns-then-end-eq0 : goal.returns-then-end-eq0
-returns-then-end-eq0 c = open_end c.loop-at.invariant (omega arith) c.if-chr-ne34.false c.string_end-end.ensures.same c.if-end-eq0.true
+pub returns-in_err-end : goal.returns-in_err-end
+returns-in_err-end c = c.from_residual.ensures ∙ unclosed c.loop-at.invariant c.loop-at-test.true c.if-atom-at-ne34.false c.in_err-end.ensures
 
 pub returns-then-is_whole : goal.returns-then-is_whole
-returns-then-is_whole c = whole c.loop-at.invariant (omega arith) c.if-chr-ne34.false c.string_end-end.ensures.same c.if-end-eq0.false (c.string_end-end.ensures.whole c.if-end-eq0.false) (sym c.is_whole.ensures ∙ c.if-is_whole.true)
-
-pub loop-at-smaller : goal.loop-at-smaller
-loop-at-smaller c = omega (arith, c.string_end-end.ensures.on c.if-end-eq0.false)
+returns-then-is_whole c = whole c.loop-at.invariant c.loop-at-test.true c.if-atom-at-ne34.false c.in_ok-end.ensures (sym c.is_whole.ensures ∙ c.if-is_whole.true)
 
 pub loop-at-preserved : goal.loop-at-preserved
-loop-at-preserved c = passed c.loop-at.invariant (omega arith) c.if-chr-ne34.false c.string_end-end.ensures.same c.if-end-eq0.false (c.string_end-end.ensures.whole c.if-end-eq0.false) (sym c.is_whole.ensures ∙ c.if-is_whole.false)
+loop-at-preserved c =
+    let e = take_rest c.args.atom.now c.in_ok-end.end in
+    let run = subst (λ (m : List ℕ). PlainTo m c.plain_end.result) e c.plain_end.ensures.run in
+    let stop = subst (λ (m : List ℕ). StopsAt m c.plain_end.result) e c.plain_end.ensures.stop in
+    passed c.loop-at.invariant c.loop-at-test.true c.if-atom-at-ne34.false c.in_ok-end.ensures (sym c.is_whole.ensures ∙ c.if-is_whole.false) run stop
 
-pub returns-then-quoted : goal.returns-then-quoted
-returns-then-quoted c = mixed c.loop-at.invariant c.loop-at-test.false c.if-atom-eq0.false c.if-quoted.true
-
-pub returns-else-quoted : goal.returns-else-quoted
-returns-else-quoted c = plain c.loop-at.invariant c.loop-at-test.false c.if-atom-eq0.false c.if-quoted.false
+pub returns : goal.returns
+returns c = ended c.loop-at.invariant c.loop-at-test.false (omega (arith, c.requires.0))

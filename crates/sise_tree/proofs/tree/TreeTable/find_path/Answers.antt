@@ -1,41 +1,50 @@
--- Before each turn, going on from the node that is due gives the whole path's answer, and no more nodes were looked at than stand before it; each turn goes
--- forward by one node at least.
-use native.Mathlib.Omega.{arith}
-use mathlib.Core.Path.{sym, ◌∙◌}
-use Rattle.sise_tree.proofs.FindLaws.{too_long, going_root, going_outside, going_stuck, going_past, going_found, going_atom, going_none, going_child}
+-- Each way out of the loop answers as the whole path does; each turn leads to the child of the path's next index.
+use mathlib.Core.Path.{sym}
+use Rattle.std.proofs.lemmas.Result.{err_from_is_err_and}
+use Rattle.sise_tree.proofs.NodeLaws.{its_words, no_words, some_of, none_of}
+use Rattle.sise_tree.proofs.FindLaws.{too_long, going_root, going_outside, going_found, going_atom, going_none, going_stop, going_on}
+use Rattle.sise_tree.proofs.tree.TreeTable.find_path.Goals.{then-list-ne0-via-then-list-ne0, then-list-ne0-via-else-list-ne0+then-index-list}
 use Rattle.sise_tree.proofs.tree.TreeTable.find_path.Goals as goal
 
 pub returns-then-self-gt-LONGEST : goal.returns-then-self-gt-LONGEST
 returns-then-self-gt-LONGEST c = sym (too_long _ _ _ c.if-self-gt-LONGEST.true)
 
-pub loop-at-init : goal.loop-at-init
-loop-at-init c = going_root _ _ _ c.if-self-gt-LONGEST.false
+pub loop-index-init : goal.loop-index-init
+loop-index-init c = going_root _ _ _ c.if-self-gt-LONGEST.false
 
-pub returns-then-at-nodes : goal.returns-then-at-nodes
-returns-then-at-nodes c = sym (going_outside c.loop-at.invariant c.if-at-nodes.true)
+pub returns-in_err-list : goal.returns-in_err-list
+returns-in_err-list c =
+    let (none, e) = none_of _ _ c.ok_or.ensures.value c.in_err-list.was in
+    let p = err_from_is_err_and c.from_residual.result c.from_residual.ensures.1 in
+    rw (p.1, p.2, e) (sym (going_outside c.loop-index.invariant (no_words _ _ c.node.ensures none)))
 
-pub returns-then-span-eq0 : goal.returns-then-span-eq0
-returns-then-span-eq0 c =
-    sym (going_stuck c.loop-at.invariant c.if-at-nodes.false c.if-left-gt0.true c.word-span.ensures.same c.if-span-eq0.true)
+pub returns-then-list-ne0 : goal.returns-then-list-ne0
+returns-then-list-ne0 c =
+    let its = its_words _ _ c.node.ensures (some_of _ _ c.ok_or.ensures.value c.in_ok-list.was) in
+    elim c.then-list-ne0.branch [
+      | then-list-ne0-via-then-list-ne0 w ↦ sym (going_atom c.loop-index.invariant its c.loop-index-test.true w.if-list-ne0.true)
+      | then-list-ne0-via-else-list-ne0+then-index-list w ↦ sym (going_none c.loop-index.invariant its c.loop-index-test.true w.if-list-ne0.false w.if-index-list.true)
+    ]
 
-pub loop-at-preserved-then-left-gt0 : goal.loop-at-preserved-then-left-gt0
-loop-at-preserved-then-left-gt0 c =
-    going_past c.loop-at.invariant c.if-at-nodes.false c.if-left-gt0.true c.word-span.ensures.same c.if-span-eq0.false
+pub returns-in_err-at : goal.returns-in_err-at
+returns-in_err-at c =
+    let its = its_words _ _ c.node.ensures (some_of _ _ c.ok_or.ensures.value c.in_ok-list.was) in
+    let (none, e) = none_of _ _ c.ok_or-in-loop-index.ensures.value c.in_err-at.was in
+    let p = err_from_is_err_and c.from_residual-in_err-at.result c.from_residual-in_err-at.ensures.1 in
+    rw (p.1, p.2, e) (sym (going_stop c.loop-index.invariant its c.loop-index-test.true c.if-list-ne0.false c.if-index-list.false c.passed.ensures.same none))
 
-pub returns-then-k-path : goal.returns-then-k-path
-returns-then-k-path c = sym (going_found c.loop-at.invariant c.if-at-nodes.false c.if-left-gt0.false c.if-k-path.true)
+pub loop-index-preserved : goal.loop-index-preserved
+loop-index-preserved c =
+    let its = its_words _ _ c.node.ensures (some_of _ _ c.ok_or.ensures.value c.in_ok-list.was) in
+    let behind = some_of _ _ c.ok_or-in-loop-index.ensures.value c.in_ok-at.was in
+    going_on c.loop-index.invariant its c.loop-index-test.true c.if-list-ne0.false c.if-index-list.false c.passed.ensures.same behind (rw behind at c.passed.ensures.forward)
 
-pub returns-then-not-is_list : goal.returns-then-not-is_list
-returns-then-not-is_list c =
-    let g = c.loop-at.invariant in
-    sym (going_atom g c.if-at-nodes.false c.if-left-gt0.false (omega arith) (sym c.is_list.ensures ∙ c.if-not-is_list.true))
+pub returns-in_err-ok_or : goal.returns-in_err-ok_or
+returns-in_err-ok_or c =
+    let (none, e) = none_of _ _ c.ok_or-2.ensures.value c.in_err-ok_or.was in
+    let p = err_from_is_err_and c.from_residual-in_err-ok_or.result c.from_residual-in_err-ok_or.ensures.1 in
+    rw (p.1, p.2, e) (sym (going_outside c.loop-index.invariant (no_words _ _ c.node-2.ensures none)))
 
-pub returns-then-left-word : goal.returns-then-left-word
-returns-then-left-word c =
-    let g = c.loop-at.invariant in
-    sym (going_none g c.if-at-nodes.false c.if-left-gt0.false (omega arith) (sym c.is_list.ensures ∙ c.if-not-is_list.false) c.word.ensures.same c.if-left-word.true)
-
-pub loop-at-preserved : goal.loop-at-preserved
-loop-at-preserved c =
-    let g = c.loop-at.invariant in
-    going_child g c.if-at-nodes.false c.if-left-gt0.false (omega arith) (sym c.is_list.ensures ∙ c.if-not-is_list.false) c.word.ensures.same c.if-left-word.false
+pub returns : goal.returns
+returns c =
+    sym (going_found c.loop-index.invariant (its_words _ _ c.node-2.ensures (some_of _ _ c.ok_or-2.ensures.value c.in_ok-ok_or.was)) c.loop-index-test.false)

@@ -1,12 +1,6 @@
--- Before each turn, going on from the node that is due gives the whole path's answer, and no more nodes were looked at than stand before it; each turn goes
--- forward by one node at least.
-use Prim.Native.Nat.{◌-◌, ◌/◌}
-use lib.ListN.{length}
+-- Before each turn, going on from the node reached gives the whole path's answer.
 use Rattle.sise_tree.proofs.FindLaws.{Going}
 use Rattle.sise_tree.proofs.tree.TreeTable.find_path.Given as goal
 
-abbrev pub invariant-loop-at : goal.invariant-loop-at
-invariant-loop-at l = Going l.table l.self.text.now l.path l.at l.seen l.k l.left
-
-abbrev pub decreases-loop-at : goal.decreases-loop-at
-decreases-loop-at l = length l.table / 4 - l.at
+abbrev pub invariant-loop-index : goal.invariant-loop-index
+invariant-loop-index l = Going l.self.table.now l.self.text.now l.path l.at l.seen l.index-index

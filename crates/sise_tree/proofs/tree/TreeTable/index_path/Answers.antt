@@ -1,7 +1,9 @@
--- Before each turn, going on from the node reached with the indices left gives the whole path's answer.
-use mathlib.Core.Path.{sym}
+-- On a table that holds a tree the lookup of the nodes on the way answers for the whole.
+use mathlib.Core.Path.{sym, ap, ◌∙◌}
+use Rattle.std.proofs.lemmas.Result.{err_from_is_err_and}
+use Rattle.sise_tree.specs.FindPath.{found_as}
 use Rattle.sise_tree.proofs.HeldLaws.{some_held, none_held}
-use Rattle.sise_tree.proofs.PathLaws.{too_long, no_tree_lem, at_root, at_none, at_more, at_child, at_end_lem}
+use Rattle.sise_tree.proofs.FindTree.{too_long, no_tree_lem, index_found, index_refused}
 use Rattle.sise_tree.proofs.tree.TreeTable.index_path.Goals as goal
 
 pub returns-then-self-gt-LONGEST : goal.returns-then-self-gt-LONGEST
@@ -10,25 +12,13 @@ returns-then-self-gt-LONGEST c = sym (too_long _ _ _ c.if-self-gt-LONGEST.true)
 pub returns-in-NotATree : goal.returns-in-NotATree
 returns-in-NotATree c = sym (no_tree_lem _ _ _ c.if-self-gt-LONGEST.false (none_held _ _ c.holds_tree.ensures c.in-NotATree.is))
 
-pub loop-index-init : goal.loop-index-init
-loop-index-init c = at_root _ _ _ c.if-self-gt-LONGEST.false (some_held _ _ c.holds_tree.ensures c.in_default.not-NotATree)
-
-pub returns-then-table-at-ne0 : goal.returns-then-table-at-ne0
-returns-then-table-at-ne0 c =
-    sym (at_none c.loop-index.invariant c.loop-index-test.true (λ z. absurd (c.if-table-at-ne0.true z)))
-
-pub returns-then-index-word : goal.returns-then-index-word
-returns-then-index-word c =
-    sym (at_none c.loop-index.invariant c.loop-index-test.true (λ z. rw (← c.word.ensures.same) c.if-index-word.true))
-
-pub child-at-requires : goal.child-at-requires
-child-at-requires c =
-    at_more c.loop-index.invariant c.loop-index-test.true c.if-table-at-ne0.false c.word.ensures.same c.if-index-word.false
-
-pub loop-index-preserved : goal.loop-index-preserved
-loop-index-preserved c =
-    let next = at_child c.loop-index.invariant c.loop-index-test.true c.if-table-at-ne0.false c.word.ensures.same c.if-index-word.false in
-    rw c.child-at.ensures next
+pub returns-in_err-found : goal.returns-in_err-found
+returns-in_err-found c =
+    let p = err_from_is_err_and c.from_residual.result c.from_residual.ensures.1 in
+    let tree = some_held _ _ c.holds_tree.ensures c.in_default.not-NotATree in
+    rw (p.1, p.2) (index_refused _ _ _ c.if-self-gt-LONGEST.false tree _ (sym (ap found_as c.in_err-found.was) ∙ c.find_path.ensures))
 
 pub returns : goal.returns
-returns c = sym (at_end_lem c.loop-index.invariant c.loop-index-test.false)
+returns c =
+    let tree = some_held _ _ c.holds_tree.ensures c.in_default.not-NotATree in
+    index_found _ _ _ c.if-self-gt-LONGEST.false tree (sym (ap found_as c.in_ok-found.was) ∙ c.find_path.ensures)

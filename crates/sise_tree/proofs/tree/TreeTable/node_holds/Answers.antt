@@ -1,6 +1,6 @@
 -- At each return the tests that led there are those of the definition, on the words that were read.
 use Rattle.std.specs.Prelude.{is_some, Option}
-use Prim.Native.Nat.{ℕ, ◌-◌, ◌/◌, ◌<◌}
+use Prim.Native.Nat.{ℕ, ◌-◌}
 use native.Mathlib.Omega.{arith}
 use mathlib.Core.Path.{sym, ap, ◌∙◌}
 use mathlib.Core.Bool.{Bool, true}
@@ -9,31 +9,48 @@ use lib.ListN.{length, drop, length-drop}
 use lib.Seq.{take_all}
 use Rattle.sise_util.specs.Atom.{kind_prefix}
 use Rattle.sise_util.specs.declared.util.AtomKind.{AtomKind}
-use Rattle.sise_tree.specs.Tree.{fits_kind, kind}
+use Rattle.sise_tree.specs.Tree.{fits_kind}
 use Rattle.sise_tree.specs.Held.{held_if}
+use Rattle.sise_tree.proofs.NodeLaws.{its_words, no_words, none_left}
 use Rattle.sise_tree.proofs.HeldLaws.{held_short, held_list, held_long, held_past, held_atom}
+use Rattle.sise_tree.proofs.tree.TreeTable.node_holds.Goals.{then-node-ne1-via-then-node-ne1, then-node-ne1-via-else-node-ne1+then-self-first}
 use Rattle.sise_tree.proofs.tree.TreeTable.node_holds.Goals as goal
 
-pub returns-then-table-lt4 : goal.returns-then-table-lt4
-returns-then-table-lt4 c = let a = c.args in held_short a.self.text.now a.self.table.now c.if-table-lt4.true
+pub returns-in_default : goal.returns-in_default
+returns-in_default c = held_short _ _ (omega (arith, no_words _ _ c.node.ensures (none_left c.in_default.not-Some)))
 
 pub returns-then-fills : goal.returns-then-fills
-returns-then-fills c = let a = c.args in let within : 0 < length a.self.table.now / 4 = omega (arith, c.if-table-lt4.false) in sym (ap (λ (b : Bool). held_if b true) c.if-fills.true) ∙ held_list a.self.text.now a.self.table.now within c.word-first.ensures.same c.word-span.ensures.same c.if-table-eq0.true c.fills.ensures
+returns-then-fills c =
+    let its = its_words _ _ c.node.ensures c.in-Some.is in
+    sym (ap (λ (b : Bool). held_if b true) c.if-fills.true)
+    ∙ held_list _ _ its.within (c.wide-first.ensures.same ∙ its.firsts) (c.wide.ensures.same ∙ its.spans) (sym its.kinds ∙ c.if-node-eq0.true) c.fills.ensures
 
-pub returns-then-table-eq0 : goal.returns-then-table-eq0
-returns-then-table-eq0 c = let a = c.args in let within : 0 < length a.self.table.now / 4 = omega (arith, c.if-table-lt4.false) in sym (ap (λ (b : Bool). held_if b true) c.if-fills.false) ∙ held_list a.self.text.now a.self.table.now within c.word-first.ensures.same c.word-span.ensures.same c.if-table-eq0.true c.fills.ensures
+pub returns-then-node-eq0 : goal.returns-then-node-eq0
+returns-then-node-eq0 c =
+    let its = its_words _ _ c.node.ensures c.in-Some.is in
+    sym (ap (λ (b : Bool). held_if b true) c.if-fills.false)
+    ∙ held_list _ _ its.within (c.wide-first.ensures.same ∙ its.firsts) (c.wide.ensures.same ∙ its.spans) (sym its.kinds ∙ c.if-node-eq0.true) c.fills.ensures
 
-pub returns-then-span-ne1 : goal.returns-then-span-ne1
-returns-then-span-ne1 c = let a = c.args in let within : 0 < length a.self.table.now / 4 = omega (arith, c.if-table-lt4.false) in held_long a.self.text.now a.self.table.now within c.if-table-eq0.false c.word-span.ensures.same c.if-span-ne1.true
-
-pub returns-then-self-first : goal.returns-then-self-first
-returns-then-self-first c = let a = c.args in let within : 0 < length a.self.table.now / 4 = omega (arith, c.if-table-lt4.false) in held_past a.self.text.now a.self.table.now within c.if-table-eq0.false c.word-first.ensures.same c.word-second.ensures.same c.word-span.ensures.same c.if-span-ne1.false c.if-self-first.true
-
-pub slice_bounds-check_atom_prefix-count : goal.slice_bounds-check_atom_prefix-count
-slice_bounds-check_atom_prefix-count c = omega (arith, c.if-self-first.false)
-
-pub slice_bounds-check_atom_prefix-start : goal.slice_bounds-check_atom_prefix-start
-slice_bounds-check_atom_prefix-start c = omega (arith, c.if-self-first.false)
+pub returns-then-node-ne1 : goal.returns-then-node-ne1
+returns-then-node-ne1 c =
+    let its = its_words _ _ c.node.ensures c.in-Some.is in
+    let x = c.wide-first.ensures.same ∙ its.firsts in
+    let y = c.wide-len.ensures.same ∙ its.seconds in
+    elim c.then-node-ne1.branch [
+      | then-node-ne1-via-then-node-ne1 w ↦ held_long _ _ its.within (λ z. c.if-node-eq0.false (its.kinds ∙ z)) its.spans w.if-node-ne1.true
+      | then-node-ne1-via-else-node-ne1+then-self-first w ↦
+          held_past _ _ its.within (λ z. c.if-node-eq0.false (its.kinds ∙ z)) x y its.spans w.if-node-ne1.false w.if-self-first.true
+    ]
 
 pub returns : goal.returns
-returns c = let a = c.args in let within : 0 < length a.self.table.now / 4 = omega (arith, c.if-table-lt4.false) in let x = c.word-first.result in let rest = take_all (length a.self.text.now - x) (drop x a.self.text.now) (omega (arith, length-drop x a.self.text.now)) in c.kind_holds.ensures ∙ ap (λ (k : Option AtomKind). held_if (fits_kind k (kind a.self.table.now 0)) (is_some k)) (c.check_atom_prefix.ensures ∙ ap (λ (l : List ℕ). kind_prefix l c.word-second.result) rest) ∙ held_atom a.self.text.now a.self.table.now within c.if-table-eq0.false c.word-first.ensures.same c.word-second.ensures.same c.word-span.ensures.same c.if-span-ne1.false c.if-self-first.false
+returns c =
+    let its = its_words _ _ c.node.ensures c.in-Some.is in
+    let x = c.wide-first.ensures.same ∙ its.firsts in
+    let y = c.wide-len.ensures.same ∙ its.seconds in
+    let text = c.args.self.text.now in
+    let at = c.wide-first.result in
+    let rest = take_all (length text - at) (drop at text) (omega (arith, length-drop at text)) in
+    c.kind_holds.ensures
+    ∙ ap (λ (k : Option AtomKind). held_if (fits_kind k c.in-Some.node.kind) (is_some k)) (c.check_atom_prefix.ensures ∙ ap (λ (l : List ℕ). kind_prefix l c.wide-len.result) rest)
+    ∙ ap (λ (k : ℕ). held_if (fits_kind (kind_prefix (drop at text) c.wide-len.result) k) (is_some (kind_prefix (drop at text) c.wide-len.result))) its.kinds
+    ∙ held_atom _ _ its.within (λ z. c.if-node-eq0.false (its.kinds ∙ z)) x y its.spans c.if-node-ne1.false c.if-self-first.false
