@@ -36,7 +36,7 @@ fn put_character(out: &mut Printer, found: Result<Character, IllFormed>) {
     }
 }
 
-// What four functions say of a byte. It is no value's text, so that no trait's method stands for it; the two truths are put as 0 or 1.
+// What four functions say of a byte, two of them 0 or 1. It is no value's text, so that no trait's method stands for it.
 fn put_byte_line(out: &mut Printer, chr: u8) {
     out.put_decimal(chr as u64);
     out.put_number(class_of(chr) as usize);

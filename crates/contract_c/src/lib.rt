@@ -1,5 +1,5 @@
-// Every exported call of sise_c that does a whole job, by its name without `sise_`, under the contract that it has there and with a body that only calls it: the promises of the
-// library on one page. An edit of must-fail/ puts a wrong program in the place of a body, and the contract has to refuse it.
+// Every exported call of sise_c that does a whole job, by its name without `sise_`, under the contract that it has there and with a body that only calls it:
+// the promises of the library on one page. An edit of must-fail/ puts a wrong program in the place of a body, and the contract has to refuse it.
 #![tactic(auto)]
 
 ghost use Rattle.std.specs.Prelude.{◌≡◌, [], ◌∷◌, length};
@@ -14,18 +14,10 @@ ghost use Rattle.sise_c.specs.Reports.{checked, Reports, ReportsFound, size_of, 
 ghost use Rattle.sise_c.specs.Items.{read_items};
 
 use sise_c::{
-    sise_atom_kind, sise_check_atom, sise_commit_tree, sise_find_path, sise_index_path,
-    sise_measure_tree, sise_parse_tree, sise_read_items, sise_serialize_tree, sise_write_calls,
+    CallCount, Size, Values, sise_atom_kind, sise_check_atom, sise_commit_tree, sise_find_path,
+    sise_index_path, sise_measure_tree, sise_parse_tree, sise_read_items, sise_serialize_tree,
+    sise_write_calls,
 };
-
-// What a call answers beside its result: the answer and 0, or the refusal's place and code point.
-pub type Values = [u64; 2];
-
-// The size of a tree: its bytes, line breaks and indentations.
-pub type Size = [u64; 3];
-
-// How many calls of a list ran.
-pub type CallCount = [u64; 1];
 
 // Whether the bytes are an atom: 0 or 17.
 pub fn check_atom(atom: &[u8]) -> u32

@@ -1,5 +1,5 @@
-// The reader's and the writer's calls of sise_c, one by one over the words of a record, by their names without `sise_`, each under the contract that it has there and
-// with a body that only calls it. An edit of must-fail/ puts a wrong program in the place of a body, and the contract has to refuse it.
+// The reader's and the writer's calls of sise_c, one by one over the words of a record, by their names without `sise_`, each under the contract that it has
+// there and with a body that only calls it. An edit of must-fail/ puts a wrong program in the place of a body, and the contract has to refuse it.
 #![tactic(auto)]
 
 ghost use Rattle.std.specs.Prelude.{◌≡◌};
@@ -9,21 +9,9 @@ ghost use Rattle.sise_c.specs.Reports.{Reports};
 ghost use Rattle.sise_c.specs.Singly.{ReportsNext, next_of, finish_of, call_on};
 
 use sise_c::{
-    sise_begin_list, sise_end_list, sise_finish_reading, sise_finish_writing, sise_next_item,
-    sise_put_atom,
+    ItemWords, ReaderWords, Values, WriterWords, sise_begin_list, sise_end_list,
+    sise_finish_reading, sise_finish_writing, sise_next_item, sise_put_atom,
 };
-
-// What a call answers beside its result: the answer and 0, or the refusal's place and code point.
-pub type Values = [u64; 2];
-
-// A reader's record in words.
-pub type ReaderWords = [u64; 3];
-
-// An item in words.
-pub type ItemWords = [u64; 3];
-
-// A writer's record in words.
-pub type WriterWords = [u64; 9];
 
 // Reads the next item of the text. `item` is its kind, place and length; of a refusal 0, its place and code point. The record's words are for the next call.
 pub fn next_item(text: &[u8], record: &mut ReaderWords, item: &mut ItemWords) -> u32

@@ -3,8 +3,8 @@
 // to refuse it.
 #![tactic(auto)]
 
-ghost use Rattle.std.specs.Prelude.{◌≡◌, ◌+◌, ◌*◌, ◌≤◌, length};
-ghost use Rattle.sise_serializer.specs.Bytes.{pasted, pasted_if};
+ghost use Rattle.std.specs.Prelude.{◌≡◌, ◌+◌, ◌*◌};
+ghost use Rattle.sise_serializer.specs.Bytes.{pasted_if};
 ghost use Rattle.sise_serializer.specs.Calls.{Does};
 ghost use Rattle.sise_serializer.specs.Parts.{spot_of, gap_bytes, break_bytes};
 ghost use Rattle.sise_serializer.specs.Serializer.{style_of, new_line_of, answer_as};
@@ -55,7 +55,7 @@ pub fn next_call<'a, 'b>(words: &'b [u64], atoms: &'a [u8]) -> Option<(Call<'a>,
     sise_serializer::next_call(words, atoms)
 }
 
-// Makes a call by the method of its own.
+// Makes a call on any record.
 pub fn make_call(
     serializer: Serializer,
     call: Call<'_>,

@@ -4,7 +4,7 @@
 #![tactic(auto)]
 
 ghost use Rattle.std.specs.Prelude.{◌≡◌, ◌≤◌, ◌↔◌, true, eqb, length, drop, get_or, IfSome, IsSome};
-ghost use Rattle.sise_parser.specs.Refusals.{refusal_of, answer_number};
+ghost use Rattle.sise_parser.specs.Refusals.{refusal, refusal_of, answer_number};
 ghost use Rattle.sise_parser.specs.Lexer.{between};
 ghost use Rattle.sise_parser.specs.Plain.{skip_blanks, atom_run, AtomTo};
 ghost use Rattle.sise_parser.specs.Reader.{fresh_reader, is_sound, next_item, finish_reading, part_of, next, reader, item as answer_item};
@@ -12,7 +12,9 @@ ghost use Rattle.sise_parser.specs.PlainItems.{IsPlain};
 ghost use Rattle.sise_parser.specs.Phases.{ReadsPhase};
 ghost use Rattle.sise_parser.specs.Meaning.{next_as, finished_as};
 
-use sise_parser::{Next, ParseError, Phase, PlainItem, Reader, Refusal, UnknownPhase};
+use sise_parser::{
+    Next, ParseError, Phase, PlainItem, Reader, Refusal, RefusalNumbers, UnknownPhase,
+};
 
 // ---- reader.rt
 
@@ -116,6 +118,27 @@ pub fn code(error: ParseError) -> u32
     ensures { result ≡ (refusal_of error).code }
 {
     error.code()
+}
+
+// All three.
+pub fn numbers(error: ParseError) -> RefusalNumbers
+    ensures { refusal result.number result.place result.code ≡ refusal_of error }
+{
+    error.numbers()
+}
+
+// The numbers of a refusal with neither place nor code point.
+pub fn unplaced(number: u32) -> RefusalNumbers
+    ensures { result ≡ record { number = number; place = 0; code = 0 } }
+{
+    RefusalNumbers::unplaced(number)
+}
+
+// The numbers of a refusal with a place and no code point.
+pub fn placed(number: u32, place: usize) -> RefusalNumbers
+    ensures { result ≡ record { number = number; place = place; code = 0 } }
+{
+    RefusalNumbers::placed(number, place)
 }
 
 // The number of an answer's refusal, 0 where the call was accepted.

@@ -14,7 +14,7 @@ ghost use Rattle.sise_tree.specs.ParseTree.{parse_tree, DoesParse};
 ghost use Rattle.sise_tree.specs.ParseText.{parse_text, DoesParseText};
 
 use sise_parser::{ParseError, Reader, Refusal, answer_number};
-use sise_tree::{Found, Held, NodeWords, PathError, TreeError, TreeRead, TreeTable};
+use sise_tree::{Found, NodeWords, PathError, TableError, TreeError, TreeRead, TreeTable};
 
 // ---- parse.rt
 
@@ -58,17 +58,17 @@ pub fn parse_text(text: &[u8], table: &mut [u32]) -> Result<usize, TreeError>
 // ---- tree.rt
 
 // Node `i`'s words, where the table has them all.
-pub fn node(table: &[u32], text: &[u8], i: usize) -> Option<NodeWords>
-    ensures { result ≡ node_words table.now i }
+pub fn node(tree: TreeTable<'_>, i: usize) -> Option<NodeWords>
+    ensures { result ≡ node_words tree.entry.table.now i }
 {
-    TreeTable { table, text }.node(i)
+    tree.node(i)
 }
 
 // The node at the end of the path: its index in the table.
-pub fn index_path(table: &[u32], text: &[u8], path: &[u64]) -> Result<usize, PathError>
-    ensures { indexed_as result ≡ index_path table.now text.now path.now }
+pub fn index_path(tree: TreeTable<'_>, path: &[u64]) -> Result<usize, PathError>
+    ensures { indexed_as result ≡ index_path tree.entry.table.now tree.entry.text.now path.now }
 {
-    TreeTable { table, text }.index_path(path)
+    tree.index_path(path)
 }
 
 // 01's number of an answer of index_path, 0 for a node.
@@ -78,11 +78,11 @@ pub fn indexed_number(indexed: Result<usize, PathError>) -> u32
     answer_number(indexed)
 }
 
-// What the table holds over the text: a tree of atoms, a tree with an atom that is none, or no tree.
-pub fn holds_tree(text: &[u8], table: &[u32]) -> Held
-    ensures { result ≡ held_as text.now (decide text.now table.now) }
+// Whether the table holds a tree of atoms over the text, or why not.
+pub fn holds_tree(tree: TreeTable<'_>) -> Result<(), TableError>
+    ensures { result ≡ held_as tree.entry.text.now (decide tree.entry.text.now tree.entry.table.now) }
 {
-    TreeTable { table, text }.holds_tree()
+    tree.holds_tree()
 }
 
 // A word of a table as an index.
@@ -96,10 +96,10 @@ pub fn wide(x: u32) -> usize
 // ---- find.rt
 
 // The node at the end of the path, where only the nodes on the way are read: its index in the table, and the number of nodes looked at.
-pub fn find_path(table: &[u32], text: &[u8], path: &[u64]) -> Result<Found, PathError>
-    ensures { found_as result ≡ find_path table.now text.now path.now }
+pub fn find_path(tree: TreeTable<'_>, path: &[u64]) -> Result<Found, PathError>
+    ensures { found_as result ≡ find_path tree.entry.table.now tree.entry.text.now path.now }
 {
-    TreeTable { table, text }.find_path(path)
+    tree.find_path(path)
 }
 
 // 01's number of an answer of find_path, 0 for a node.

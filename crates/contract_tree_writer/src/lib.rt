@@ -5,7 +5,7 @@
 ghost use Rattle.std.specs.Prelude.{◌≡◌};
 ghost use Rattle.sise_serializer.specs.Serializer.{style_of};
 ghost use Rattle.sise_tree.specs.Answers.{number_of};
-ghost use Rattle.sise_tree_writer.specs.Answers.{error_number, put_as, write_refusal};
+ghost use Rattle.sise_tree_writer.specs.Answers.{error_number, put_as, refusal_of, write_refusal};
 ghost use Rattle.sise_tree_writer.specs.SerializeTree.{serialize_tree, DoesWrite};
 ghost use Rattle.sise_tree_writer.specs.Writing.{write_text};
 ghost use Rattle.sise_tree_writer.specs.Sizes.{measured_as, number_in, MeasuresTree, CommitsTree, MeasuresText, CommitsText};
@@ -13,7 +13,7 @@ ghost use Rattle.sise_tree_writer.specs.House.{house_at, house};
 
 use sise_parser::{Refusal, answer_number};
 use sise_serializer::{Serializer, SerializerStyle};
-use sise_tree::TreeTable;
+use sise_tree::{TableError, TreeTable};
 use sise_tree_writer::{TreeSize, TreeWrote, WriteTreeError};
 
 // ---- serialize.rt
@@ -58,6 +58,8 @@ pub fn commit_tree(
     sise_tree_writer::commit_tree(serializer, style, buf, tree, break_line_at, measured)
 }
 
+// ---- the answers' numbers, by sise_parser's Refusal and answer_number
+
 // 01's number of an answer, 0 for an offset.
 pub fn number(answer: Result<usize, WriteTreeError>) -> u32
     ensures { result ≡ number_of (put_as answer) }
@@ -71,8 +73,6 @@ pub fn error_number(error: WriteTreeError) -> u32
 {
     error.number()
 }
-
-// ---- size.rt
 
 // 01's number of an enquiry's answer, 0 for a size.
 pub fn measured_number(measured: Result<TreeSize, WriteTreeError>) -> u32
@@ -150,4 +150,13 @@ pub fn refusal_code(refused: WriteTreeError) -> u32
     ensures { result ≡ (write_refusal refused).code }
 {
     refused.code()
+}
+
+// ---- writing.rt
+
+// The refusal of a table that holds no tree of atoms, as one of the calls that write.
+pub fn from_table(refused: TableError) -> WriteTreeError
+    ensures { result ≡ refusal_of refused }
+{
+    WriteTreeError::from(refused)
 }

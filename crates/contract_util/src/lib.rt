@@ -1,5 +1,6 @@
-// Every public call of sise_util, under the contract that it has there and with a body that only calls it: the promises of the library on one page. An
-// edit of must-fail/ puts a wrong program in the place of a body, and the contract has to refuse it.
+// Every public call of sise_util, under the contract that it has there and with a body that only calls it: the promises of the library on one page; with
+// them `kind_is_atom`, a call of the standard library by which a kind is asked whether it is an atom. An edit of must-fail/ puts a wrong program in the
+// place of a body, and the contract has to refuse it.
 #![tactic(auto)]
 
 ghost use Rattle.std.specs.Prelude.{◌≡◌, drop, is_some};

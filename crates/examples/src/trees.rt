@@ -30,7 +30,8 @@ fn put_paths(out: &mut Printer, tree: TreeTable<'_>) {
     }
 }
 
-// The tree on one line, in house style at 0, and in house style.
+// The tree on one line, in house style at 0, and in house style. A function for the line that puts what is written would be as long as that line: each call
+// has to hand the buffer back before its bytes are read.
 fn put_again(out: &mut Printer, tree: TreeTable<'_>) {
     let mut buf = [0; 64];
     let line = serialize_tree(Serializer::new(), STYLE, &mut buf, tree, u64::MAX).serializer;

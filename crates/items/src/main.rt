@@ -27,7 +27,8 @@ fn put_finished(out: &mut Printer, finished: Result<(), ParseError>)
     }
 }
 
-// Each turn but the last reads an item, and a text of n bytes has n items at most, so that n + 1 turns are enough.
+// Each turn but the last reads an item, and a text of n bytes has n items at most, so that n + 1 turns are enough. An iterator over the items would be a struct
+// with the record and the text and an impl whose `next` is this loop's body, and no plainer.
 fn put_items(out: &mut Printer, text: &[u8]) -> Result<(), ParseError> {
     let mut reader = Reader::new();
     for _ in 0..=text.len() {

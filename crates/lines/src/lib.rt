@@ -13,10 +13,10 @@ pub const STDIN: i32 = 0;
 
 pub const STDOUT: i32 = 1;
 
-// A program's output: the block, and the place behind the bytes in it that wait to be written. A clause sees both as an `Output`. It is never let go,
-// so that a program ends with `finish` and no byte is lost. It is a block and a place, and no `Vec`, since the project uses no heap. A value's text is
-// put by a method or by a function over a printer, and no value has a `Display`: `write!` promises its text only where it answers `Ok`, and no clause
-// says that it does; the methods here cannot fail, and promise each byte.
+// A program's output: the block, and the place behind the bytes in it that wait to be written. A clause sees both as an `Output`. It cannot be dropped, so
+// that a program has to end with `finish`, and no byte is lost. It is a block and a place, and no `Vec`, since the project uses no heap. A value's text is
+// put by a method or by a function over a printer, and no value has a `Display`: `write!` promises its text only where it answers `Ok`, and no clause says
+// that it does; the methods here cannot fail, and promise each byte.
 pub struct Printer {
     place: usize,
     block: [u8; 4096],
@@ -140,7 +140,8 @@ impl Printer {
         }
     }
 
-    // Puts a word, and behind it so many parts of a refusal, in the order number, place, code point.
+    // Puts a word, and behind it so many parts of a refusal, in the order number, place, code point. How many is a number, since the parts put are a front of
+    // one array: an enum of the three cases would be matched into the same number.
     pub fn put_refusal<E: Refusal>(&mut self, word: &[u8], error: E, parts: usize)
         ensures { self.new ≡ put self.old (refusal_text word.now parts (E.meaning error)) }
     {

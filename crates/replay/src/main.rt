@@ -16,7 +16,7 @@
 // 999999999 standing for the largest of 64 bits. All calls write into one buffer of R bytes, 0xAA at first: the first call gets a fresh record, each
 // later one the record that the last left. Printed is the line `case`; for each call the line
 //     ANSWER | position phase lists list_beginning line_len spaces breaks indents broken
-// with the record after the call, its phase 0 (beginning), 1 (writing), 2 (finished) or 3 (done), and a truth as 0 or 1, where ANSWER is `@ offset` or
+// with the record after the call, its phase 0 (beginning), 1 (writing), 2 (finished) or 3 (done), list_beginning 0 or 1, where ANSWER is `@ offset` or
 // `! number`; and last `= `, the buffer's bytes up to the position, and a line end.
 //
 // T, trees: the line `T N K W`, then the N bytes of a text, then a line end; the line `W R B I S` with a style after it, as in a writer's case; the
@@ -48,7 +48,7 @@ ghost use Rattle.script.specs.Onward.{Onward};
 use lines::Printer;
 use script::{Malformed, Script};
 
-// Runs the case whose letter was read.
+// Runs the case whose letter was read. It is a byte of the script, matched here alone, and no enum stands for it: that would be a second table of the letters.
 fn run_case(out: &mut Printer, letter: u8, script: &mut Script<'_>) -> Result<(), Malformed>
     ensures { OnOk result (Onward script.old script.new) }
 {

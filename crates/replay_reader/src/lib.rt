@@ -48,6 +48,7 @@ fn put_finished(out: &mut Printer, finished: Result<(), ParseError>) {
     out.put_byte(b'\n');
 }
 
+// The case's last number says whether finish is called: 1, or 0.
 fn put_case(out: &mut Printer, case: TextCase<'_>) {
     out.put_bytes(b"case\n");
     let mut reader = Reader::new();

@@ -19,7 +19,8 @@ const LARGEST: usize = 999999999;
 #[derive(Clone, Copy, Debug, Drop, PartialEq, Eq)]
 pub struct Malformed;
 
-// The fields of a case that begins with a text: the text, the number of next_item calls, and the last number of the line.
+// The fields of a case that begins with a text: the text, the number of next_item calls, and the last number of the line. `last` is a number, since two kinds
+// of case have this line: in one it says whether finish is called, in the other how long a table is, and a bool for the first would want a second function.
 #[derive(Clone, Copy)]
 pub struct TextCase<'a> {
     pub text: &'a [u8],
@@ -184,12 +185,11 @@ impl<'a> Script<'a> {
         })
     }
 
+    // The next call of a writer's case.
     pub fn read_call(&mut self) -> Result<Call<'a>, Malformed>
         ensures { IfOk result (CallFrom self.old self.new) }
     {
-        let Some(letter) = self.next_byte() else {
-            return Err(Malformed);
-        };
+        let letter = self.next_byte().ok_or(Malformed)?;
         if letter == b'A' {
             return self.read_atom_call();
         }

@@ -17,7 +17,8 @@ use Rattle.sise_serializer.specs.declared.serializer.Phase as writings
 use Rattle.sise_serializer.specs.declared.serializer.Phase.TheVariants as writing
 use Rattle.sise_serializer.specs.declared.serializer.Serializer.{Serializer}
 use Rattle.std.specs.Prelude.{Option, None, Some, option_map}
-use Rattle.sise_c.specs.Records.{reader_phase, reader_phase_word, reader_of, reader_words, writer_phase, writer_phase_word, flag_of, flag_word, serializer_in, serializer_of, serializer_words}
+use Rattle.sise_serializer.specs.Phases.{phase_word}
+use Rattle.sise_c.specs.Records.{reader_phase, reader_of, reader_words, writer_phase, flag_of, flag_word, serializer_in, serializer_of, serializer_words}
 
 -- a number that no phase has
 pub no_reader_phase : (n : ℕ) → ((f : readings.Phase) → phase_number f ≡ n → ⊥) → reader_phase n ≡ None
@@ -38,7 +39,7 @@ pub reader_kept : (r : Reader) → reader_of (reader_words r) ≡ Some r
 unfolding reader_of
 reader_kept r = ap (option_map (λ (phase : readings.Phase). reader r.position phase r.lists)) (go r.phase)
   where
-    go : (f : readings.Phase) → reader_phase (reader_phase_word f) ≡ Some f
+    go : (f : readings.Phase) → reader_phase (phase_number f) ≡ Some f
     go reading.Beginning = refl
     go reading.Parsing = refl
     go reading.Finishing = refl
@@ -47,7 +48,7 @@ pub writer_kept : (w : Serializer) → serializer_of (serializer_words w) ≡ So
 unfolding serializer_of
 writer_kept w = rw (phase w.phase, flag w.list_beginning) refl
   where
-    phase : (f : writings.Phase) → writer_phase (writer_phase_word f) ≡ Some f
+    phase : (f : writings.Phase) → writer_phase (phase_word f) ≡ Some f
     phase writing.Beginning = refl
     phase writing.Writing = refl
     phase writing.Finished = refl
@@ -89,17 +90,17 @@ spelled_all (x ∷ ws) = ap (λ (l : List ℕ). x ∷ l) (spelled_later 0 (lengt
 spelled_by : {n : ℕ} (ws : List ℕ) → length ws ≡ n → spelled 0 n ws ≡ ws
 spelled_by ws e = ap (λ (n : ℕ). spelled 0 n ws) (sym e) ∙ spelled_all ws
 
-reader_word : (n : ℕ) {f : readings.Phase} → reader_phase n ≡ Some f → reader_phase_word f ≡ n
-reader_word zero e = ap reader_phase_word (the_same (sym e))
-reader_word (suc zero) e = ap reader_phase_word (the_same (sym e))
-reader_word (suc (suc zero)) e = ap reader_phase_word (the_same (sym e))
+reader_word : (n : ℕ) {f : readings.Phase} → reader_phase n ≡ Some f → phase_number f ≡ n
+reader_word zero e = ap phase_number (the_same (sym e))
+reader_word (suc zero) e = ap phase_number (the_same (sym e))
+reader_word (suc (suc zero)) e = ap phase_number (the_same (sym e))
 reader_word (suc (suc (suc n))) e = none_some e
 
-writer_word : (n : ℕ) {f : writings.Phase} → writer_phase n ≡ Some f → writer_phase_word f ≡ n
-writer_word zero e = ap writer_phase_word (the_same (sym e))
-writer_word (suc zero) e = ap writer_phase_word (the_same (sym e))
-writer_word (suc (suc zero)) e = ap writer_phase_word (the_same (sym e))
-writer_word (suc (suc (suc zero))) e = ap writer_phase_word (the_same (sym e))
+writer_word : (n : ℕ) {f : writings.Phase} → writer_phase n ≡ Some f → phase_word f ≡ n
+writer_word zero e = ap phase_word (the_same (sym e))
+writer_word (suc zero) e = ap phase_word (the_same (sym e))
+writer_word (suc (suc zero)) e = ap phase_word (the_same (sym e))
+writer_word (suc (suc (suc zero))) e = ap phase_word (the_same (sym e))
 writer_word (suc (suc (suc (suc n)))) e = none_some e
 
 flag_word_lem : (n : ℕ) {b : Bool} → flag_of n ≡ Some b → flag_word b ≡ n

@@ -2,9 +2,11 @@
 -- Assumes nothing.
 use Rattle.std.specs.Prelude.{ℕ, zero, suc, Bool, true, false, cond, List, [], ◌∷◌, get_or, Option, None, Some, option_map}
 use Rattle.sise_parser.specs.Reader.{reader}
+use Rattle.sise_parser.specs.Phases.{phase_number}
 use Rattle.sise_parser.specs.declared.reader.Phase as readings
 use Rattle.sise_parser.specs.declared.reader.Phase.TheVariants as reading
 use Rattle.sise_parser.specs.declared.reader.Reader.{Reader}
+use Rattle.sise_serializer.specs.Phases.{phase_word}
 use Rattle.sise_serializer.specs.declared.serializer.Phase as writings
 use Rattle.sise_serializer.specs.declared.serializer.Phase.TheVariants as writing
 use Rattle.sise_serializer.specs.declared.serializer.Serializer.{Serializer}
@@ -18,18 +20,13 @@ reader_phase (suc zero) = Some reading.Parsing
 reader_phase (suc (suc zero)) = Some reading.Finishing
 reader_phase (suc (suc (suc n))) = None
 
-abbrev pub reader_phase_word : readings.Phase → ℕ
-reader_phase_word reading.Beginning = 0
-reader_phase_word reading.Parsing = 1
-reader_phase_word reading.Finishing = 2
-
 -- the record that three words mean, if the second is a phase
 unfoldable pub reader_of : List ℕ → Option Reader
 reader_of ws = option_map (λ (phase : readings.Phase). reader (get_or ws 0 0) phase (get_or ws 2 0)) (reader_phase (get_or ws 1 0))
 
 -- a record's words
 abbrev pub reader_words : Reader → List ℕ
-reader_words r = r.position ∷ reader_phase_word r.phase ∷ r.lists ∷ []
+reader_words r = r.position ∷ phase_number r.phase ∷ r.lists ∷ []
 
 -- ---- the writer's: "position, phase (beginning, writing, finished, done), open lists D", the open lists with a break in them (02, 2.6), "list-beginning flag,
 -- line length, and the added counts spaces, breaks, indents"
@@ -40,12 +37,6 @@ writer_phase (suc zero) = Some writing.Writing
 writer_phase (suc (suc zero)) = Some writing.Finished
 writer_phase (suc (suc (suc zero))) = Some writing.Done
 writer_phase (suc (suc (suc (suc n)))) = None
-
-abbrev pub writer_phase_word : writings.Phase → ℕ
-writer_phase_word writing.Beginning = 0
-writer_phase_word writing.Writing = 1
-writer_phase_word writing.Finished = 2
-writer_phase_word writing.Done = 3
 
 -- a flag is 0 or 1
 abbrev pub flag_of : ℕ → Option Bool
@@ -79,7 +70,7 @@ serializer_of ws = serializer_in ws (writer_phase (get_or ws 1 0)) (flag_of (get
 abbrev pub serializer_words : Serializer → List ℕ
 serializer_words w =
     w.position ∷
-    writer_phase_word w.phase ∷
+    phase_word w.phase ∷
     w.lists ∷
     w.broken ∷
     flag_word w.list_beginning ∷

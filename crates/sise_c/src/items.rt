@@ -1,5 +1,5 @@
 // The items of a whole text as words, four an item: the words that write_calls takes for the calls that write them.
-ghost use Rattle.std.specs.Prelude.{◌≡◌, ◌+◌, ◌*◌, ◌≤◌, [], ◌∷◌, length, MatchResult};
+ghost use Rattle.std.specs.Prelude.{◌≡◌, ◌+◌, ◌*◌, ◌≤◌, [], length, MatchResult};
 ghost use Rattle.sise_parser.specs.Refusals.{refusal_of};
 ghost use Rattle.sise_parser.specs.Meaning.{finished_as};
 ghost use Rattle.sise_parser.specs.Reader.{ended, not_ended};
@@ -31,7 +31,8 @@ pub(crate) fn item_words(item: ParsedItem) -> [u64; 4]
     }
 }
 
-// They are written behind those of so many items, if there is room: one by one, since a copy of the four together takes 3 ns more an item.
+// They are written behind those of so many items, if there is room: one by one, since a copy of the four together takes 3 ns more an item. The count of the
+// items is what pass_items answers, so that an iterator over the fours of the words would stand beside it and not in its place: no plainer.
 fn put_item(words: &mut [u64], items: usize, item: ParsedItem)
     ensures { 4 * (items + 1) ≤ length words.old → words.new ≡ pasted words.old (4 * items) (item_words item) }
 {
@@ -46,8 +47,8 @@ fn put_item(words: &mut [u64], items: usize, item: ParsedItem)
     words[at + 3] = last;
 }
 
-// Reads the items one after the other and answers how many there are. The words of those that have room are written: to count alone, none is lent. The loop
-// asks for items until one is refused, with the record from turn to turn; there is no sequence to go over.
+// Reads the items one after the other and answers how many there are. The words of those that have room are written: to count alone, none is lent. A `loop` and
+// no `for`: the refusal that ends the items is part of the answer, and an iterator ends with None, so that the refusal would have to be kept beside it.
 fn pass_items(text: &[u8], words: &mut [u64]) -> Result<usize, ParseError>
     ensures counted { MatchResult result (λ n. (n ≡ length (items_of text.now)) × (ending_of text.now ≡ ended)) (λ e. ending_of text.now ≡ not_ended (refusal_of e)) }
     ensures filled { 4 * length (items_of text.now) ≤ length words.old → words.new ≡ pasted words.old 0 (all_words (items_of text.now)) }

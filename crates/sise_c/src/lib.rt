@@ -1,6 +1,9 @@
-// Calls for programs in C and Rust, over numbers and slices alone: include/sise.h declares them and says what a caller owes. Each does a whole job on
-// memory that is lent to it. The result is 0 or document 01's number of the refusal; `values` are what is answered and 0, or the refusal's place and
-// code point. On a refusal nothing else is written. Answers are numbers and words, and a style is two slices, since C hands them over and reads them so.
+// Calls for programs in C and Rust, over numbers and slices alone: include/sise.h declares them and says what a caller owes. Each works on memory that is lent
+// to it: it does a whole job, or is one call of the reader or the writer over the words of a record (reading.rt, writing.rt). The result is 0 or document 01's
+// number of the refusal; `values` are what is answered and 0, or the refusal's place and code point. On a refusal nothing else is written, but for the record
+// of sise_next_item. Two calls answer otherwise: sise_atom_kind refuses nothing and returns a kind, and sise_write_calls returns how many bytes are written.
+// Answers are numbers and words, a style is two slices and a tree a table and its text, since C hands them over and reads them so. Each call is a function of
+// its own, under the contract of its exported name; each that writes makes the style by its literal, which a function for it would be no shorter than.
 #![tactic(auto)]
 
 mod items;
@@ -20,21 +23,27 @@ ghost use Rattle.sise_c.specs.Reports.{checked, Reports, ReportsFound, size_of, 
 ghost use Rattle.sise_c.specs.Items.{read_items};
 
 use items::read_items;
-pub use reading::{sise_finish_reading, sise_next_item};
-use report::{
-    CallCount, Size, Values, found_words, number_words, report, size_given, size_words, written,
-};
-use sise_serializer::{SerializerStyle, write_calls};
+pub use reading::{ItemWords, ReaderWords, sise_finish_reading, sise_next_item};
+pub use report::{CallCount, Size, Values};
+use report::{found_words, number_words, report, size_given, size_words, written};
+use sise_parser::Refusal;
+use sise_serializer::{SerializerStyle, WriteError, write_calls};
 use sise_tree::{TreeTable, parse_text};
 use sise_tree_writer::{commit_text, measure_text, write_text};
 use sise_util::{check_atom, kind_number};
-pub use writing::{sise_begin_list, sise_end_list, sise_finish_writing, sise_put_atom};
+pub use writing::{
+    WriterWords, sise_begin_list, sise_end_list, sise_finish_writing, sise_put_atom,
+};
 
 // Whether the bytes are an atom: 0 or 17.
 pub fn sise_check_atom(atom: &[u8]) -> u32
     ensures { result ≡ checked (is_atom atom.now) }
 {
-    if check_atom(atom).is_some() { 0 } else { 17 }
+    if check_atom(atom).is_some() {
+        0
+    } else {
+        WriteError::InvalidAtom.number()
+    }
 }
 
 // Which atom the bytes are: 1 plain, with no `"` in it, 2 one whole string, 3 any other atom, and 0 no atom. It is the first word of such an atom in a table.

@@ -30,6 +30,7 @@ fn reader_of(words: &ReaderWords) -> Option<Reader>
     })
 }
 
+// The words of a record.
 fn reader_words(reader: Reader) -> ReaderWords
     ensures { result ≡ reader_words reader }
 {
@@ -45,6 +46,7 @@ fn shown(item: ParsedItem) -> ItemWords
     [kind, place, len]
 }
 
+// The next item by the record that the words mean, which become those of the record after it, of a refusal too. Words that mean none are refused and stay.
 #[tactic(auto, unfolding(crate::specs::Singly::next_of, crate::specs::Singly::next_by))]
 fn next_item(text: &[u8], record: &mut ReaderWords) -> Result<ParsedItem, ParseError>
     ensures answer { answer_as result ≡ (next_of text.now «record».old).answer }
@@ -66,6 +68,7 @@ pub fn sise_next_item(text: &[u8], record: &mut ReaderWords, item: &mut ItemWord
     report(answer.map(shown), item)
 }
 
+// The end of the text by the record that the words mean.
 #[tactic(auto, unfolding(crate::specs::Singly::finish_of, crate::specs::Singly::finish_by))]
 fn finish(text: &[u8], record: &ReaderWords) -> Result<(), ParseError>
     ensures { ending_answer (finished_as result) ≡ finish_of text.now «record».now }

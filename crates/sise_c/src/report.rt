@@ -5,11 +5,11 @@ ghost use Rattle.sise_tree_writer.specs.Answers.{put_as, error_number};
 ghost use Rattle.sise_tree_writer.specs.Sizes.{measured_as};
 ghost use Rattle.sise_c.specs.Reports.{refusal_words, Tells, size_or, size_given};
 
-use sise_parser::Refusal;
+use sise_parser::{Refusal, RefusalNumbers};
 use sise_tree::Found;
 use sise_tree_writer::{TreeSize, TreeWrote, WriteTreeError};
 
-// What a call answers beside its result.
+// What a call answers beside its result: the answer and 0, or the refusal's place and code point.
 pub type Values = [u64; 2];
 
 // The size of a tree: its bytes, line breaks and indentations.
@@ -40,18 +40,21 @@ pub(crate) fn report<const N: usize, E: Refusal>(
     }
 }
 
+// A number as the first value, with 0 as the second.
 pub(crate) fn number_words(number: usize) -> Values
     ensures { result ≡ number ∷ 0 ∷ [] }
 {
     [number as u64, 0]
 }
 
+// A tree's size in words.
 pub(crate) fn size_words(size: TreeSize) -> Size
     ensures { result ≡ size.bytes ∷ size.breaks ∷ size.indents ∷ [] }
 {
     [size.bytes as u64, size.breaks as u64, size.indents as u64]
 }
 
+// What find_path answers as values: the node's index and how many nodes it looked at.
 pub(crate) fn found_words(found: Found) -> Values
     ensures { result ≡ found.index ∷ found.seen ∷ [] }
 {
@@ -66,16 +69,8 @@ pub(crate) struct Numbered(pub(crate) u32);
 impl Refusal for Numbered {
     ghost meaning = { λ e. refusal e.0 0 0 };
 
-    fn number(self) -> u32 {
-        self.0
-    }
-
-    fn place(self) -> usize {
-        0
-    }
-
-    fn code(self) -> u32 {
-        0
+    fn numbers(self) -> RefusalNumbers {
+        RefusalNumbers::unplaced(self.0)
     }
 }
 

@@ -9,15 +9,19 @@ ghost use Rattle.sise_c.specs.Reports.{Reports, Tells};
 ghost use Rattle.sise_c.specs.Singly.{word_answer, call_on, Makes};
 
 use crate::report::{Numbered, Values, report};
-use sise_serializer::{Phase, Serializer, SerializerStyle, write_calls_from};
+use sise_parser::Refusal;
+use sise_serializer::{Phase, Serializer, SerializerStyle, WriteError, write_calls_from};
 
 // A writer's record in words: C keeps it between the calls, and include/sise.h has it as an array.
 pub type WriterWords = [u64; 9];
 
-// A call is made as a list of that call alone, by write_calls_from: a second caller of the writer's steps would take them out of the loop of a whole list, and
-// make that slower. This is the word of 11, which stays where the record is unsound and no call runs.
+// The word of 11, UnsoundRecord's number, which stays where the record is unsound and no call runs.
 const UNSOUND: u64 = 4294967307;
 
+// An answer's word of at least this is a refusal's: this and its number (put_word of sise_serializer).
+const REFUSED: u64 = 4294967296;
+
+// A flag's word is 0 or 1. A `match` and no TryFrom: the library has none from u64 to bool.
 fn flag_of(word: u64) -> Option<bool>
     ensures { result ≡ flag_of word }
 {
@@ -49,6 +53,7 @@ fn writer_of(words: &WriterWords) -> Option<Serializer>
     })
 }
 
+// The words of a record.
 fn writer_words(w: Serializer) -> WriterWords
     ensures { result ≡ serializer_words w }
 {
@@ -71,13 +76,15 @@ fn told(word: u64) -> Result<Values, Numbered>
     requires { word < 2 ^ 33 }
     ensures { Tells (λ e. e.0) (word_answer word) result }
 {
-    if word < 4294967296 {
+    if word < REFUSED {
         return Ok([word, 0]);
     }
-    Err(Numbered((word - 4294967296) as u32))
+    Err(Numbered((word - REFUSED) as u32))
 }
 
-// Makes the call that four words mean, of an atom or of no bytes, with the record that a caller keeps.
+// Makes the call that four words mean, of an atom or of no bytes, with the record that a caller keeps. It is made as a list of that call alone, by
+// write_calls_from: a second caller of the writer's steps would take them out of the loop of a whole list, and make that slower. So a call stands here in the
+// words that next_call of sise_serializer reads back: its kind by number, the place and length of its atom, and its threshold.
 #[tactic(auto, unfolding(crate::specs::Singly::call_on, crate::specs::Singly::call_by))]
 fn make_call(
     call: &[u64; 4],
@@ -89,7 +96,7 @@ fn make_call(
     requires { get_or call.now 0 0 ≤ 4 }
     ensures { Makes (call_on (call_at call.now atom.now 0) (style_of style.entry) «record».old buf.old) result «record».new buf.new }
 {
-    let w = writer_of(record).ok_or(Numbered(11))?;
+    let w = writer_of(record).ok_or(Numbered(WriteError::UnsoundRecord.number()))?;
     let mut answers = [UNSOUND];
     let ran = write_calls_from(w, call, atom, style, buf, &mut answers);
     *record = writer_words(ran.serializer);

@@ -1,5 +1,6 @@
-// The calls of sise_c for programs in C and Rust: include/sise.h declares them and says what a caller owes. Each calls the library's function of its name, under
-// the contract that it has there.
+// The calls of sise_c for programs in C and Rust: include/sise.h declares them and says what a caller owes. Each calls the library's function of its name,
+// under the contract that it has there. The bodies stand in sise_c, which the contract crates call: a crate is a library or a static
+// library, and not both.
 #![tactic(auto)]
 
 ghost use Rattle.std.specs.Prelude.{◌≡◌, [], ◌∷◌, length};
@@ -15,23 +16,7 @@ ghost use Rattle.sise_c.specs.Items.{read_items};
 ghost use Rattle.sise_c.specs.Singly.{ReportsNext, next_of, finish_of, call_on};
 ghost use Rattle.sise_serializer.specs.Calls.{put_atom_call, begin_list_call, end_list_call, finish_call};
 
-// What a call answers beside its result.
-pub type Values = [u64; 2];
-
-// The size of a tree: its bytes, line breaks and indentations.
-pub type Size = [u64; 3];
-
-// How many calls of a list ran.
-pub type CallCount = [u64; 1];
-
-// A reader's record in words.
-pub type ReaderWords = [u64; 3];
-
-// An item in words: kind, place, and of an atom its length.
-pub type ItemWords = [u64; 3];
-
-// A writer's record in words.
-pub type WriterWords = [u64; 9];
+use sise_c::{CallCount, ItemWords, ReaderWords, Size, Values, WriterWords};
 
 // Whether the bytes are an atom: 0 or 17.
 #[unsafe(no_mangle)]

@@ -1,7 +1,7 @@
 // Why a call of the reader is refused. `pos` is a place, a byte offset in the text, and `chr` a code point. specs/Refusals.antt has document 01's
 // number of each.
 ghost use Rattle.std.specs.Prelude.{◌≡◌};
-ghost use Rattle.sise_parser.specs.Refusals.{Refusal, refusal_of, answer_number};
+ghost use Rattle.sise_parser.specs.Refusals.{Refusal, refusal, refusal_of, answer_number};
 
 #[derive(Clone, Copy, Debug, PartialEq, Eq)]
 pub enum ParseError {
@@ -29,19 +29,64 @@ pub enum ParseError {
     UnsoundRecord,
 }
 
-// A refusal in numbers: document 01's number of it, and its place and code point. Where there is none they are 0 and no Option: C reads them as words.
-// `place` and `code` have no default bodies: a default is proved once for all refusals, and 0 is not what each of them has.
+// A refusal in numbers: document 01's number of it, its place and its code point. Where there is none they are 0 and no Option: C reads them as words.
+#[derive(Clone, Copy, Debug, PartialEq, Eq)]
+pub struct RefusalNumbers {
+    pub number: u32,
+    pub place: usize,
+    pub code: u32,
+}
+
+impl RefusalNumbers {
+    // Of a refusal with neither place nor code point.
+    #[inline(always)]
+    pub fn unplaced(number: u32) -> RefusalNumbers
+        ensures { result ≡ record { number = number; place = 0; code = 0 } }
+    {
+        RefusalNumbers {
+            number,
+            place: 0,
+            code: 0,
+        }
+    }
+
+    // Of a refusal with a place and no code point.
+    #[inline(always)]
+    pub fn placed(number: u32, place: usize) -> RefusalNumbers
+        ensures { result ≡ record { number = number; place = place; code = 0 } }
+    {
+        RefusalNumbers {
+            number,
+            place,
+            code: 0,
+        }
+    }
+}
+
+// What each type of refusals gives: the numbers of each refusal.
 pub trait Refusal: Copy {
     ghost meaning: { Self → Refusal };
 
+    fn numbers(self) -> RefusalNumbers
+        ensures { refusal result.number result.place result.code ≡ meaning self };
+
     fn number(self) -> u32
-        ensures { result ≡ (meaning self).number };
+        ensures { result ≡ (meaning self).number }
+    {
+        self.numbers().number
+    }
 
     fn place(self) -> usize
-        ensures { result ≡ (meaning self).place };
+        ensures { result ≡ (meaning self).place }
+    {
+        self.numbers().place
+    }
 
     fn code(self) -> u32
-        ensures { result ≡ (meaning self).code };
+        ensures { result ≡ (meaning self).code }
+    {
+        self.numbers().code
+    }
 }
 
 // The number of an answer's refusal, 0 where the call was accepted.
@@ -57,42 +102,32 @@ pub fn answer_number<T: Copy, E: Refusal>(answer: Result<T, E>) -> u32
 impl Refusal for ParseError {
     ghost meaning = { refusal_of };
 
-    fn number(self) -> u32 {
+    // By a `match`: the cases carry values, and only an enum whose cases carry none is cast to a number.
+    fn numbers(self) -> RefusalNumbers {
         match self {
-            ParseError::IllegalChr { .. } => 1,
-            ParseError::IllegalChrInString { .. } => 2,
-            ParseError::IllegalChrInComment { .. } => 3,
-            ParseError::UnfinishedString { .. } => 4,
-            ParseError::UnexpectedEof { .. } => 5,
-            ParseError::UnexpectedRightParen { .. } => 6,
-            ParseError::ExpectedEof { .. } => 7,
-            ParseError::IllFormedChr { .. } => 8,
-            ParseError::ParsingFinished => 9,
-            ParseError::ParsingNotFinished => 10,
-            ParseError::UnsoundRecord => 11,
-        }
-    }
-
-    fn place(self) -> usize {
-        match self {
-            ParseError::IllegalChr { pos, .. }
-            | ParseError::IllegalChrInString { pos, .. }
-            | ParseError::IllegalChrInComment { pos, .. }
-            | ParseError::UnfinishedString { pos }
-            | ParseError::UnexpectedEof { pos }
-            | ParseError::UnexpectedRightParen { pos }
-            | ParseError::ExpectedEof { pos }
-            | ParseError::IllFormedChr { pos } => pos,
-            _ => 0,
-        }
-    }
-
-    fn code(self) -> u32 {
-        match self {
-            ParseError::IllegalChr { chr, .. }
-            | ParseError::IllegalChrInString { chr, .. }
-            | ParseError::IllegalChrInComment { chr, .. } => chr,
-            _ => 0,
+            ParseError::IllegalChr { pos, chr } => RefusalNumbers {
+                number: 1,
+                place: pos,
+                code: chr,
+            },
+            ParseError::IllegalChrInString { pos, chr } => RefusalNumbers {
+                number: 2,
+                place: pos,
+                code: chr,
+            },
+            ParseError::IllegalChrInComment { pos, chr } => RefusalNumbers {
+                number: 3,
+                place: pos,
+                code: chr,
+            },
+            ParseError::UnfinishedString { pos } => RefusalNumbers::placed(4, pos),
+            ParseError::UnexpectedEof { pos } => RefusalNumbers::placed(5, pos),
+            ParseError::UnexpectedRightParen { pos } => RefusalNumbers::placed(6, pos),
+            ParseError::ExpectedEof { pos } => RefusalNumbers::placed(7, pos),
+            ParseError::IllFormedChr { pos } => RefusalNumbers::placed(8, pos),
+            ParseError::ParsingFinished => RefusalNumbers::unplaced(9),
+            ParseError::ParsingNotFinished => RefusalNumbers::unplaced(10),
+            ParseError::UnsoundRecord => RefusalNumbers::unplaced(11),
         }
     }
 }

@@ -36,7 +36,7 @@ impl From<Wrong> for ParseError {
     }
 }
 
-// A token, its place and the position after it. An atom's length stands in its token too, which is what an item has of it.
+// A token, its place and the position after it. An atom's length, `end - start`, stands in its token too: the definition has it so (`found (atom k) s p`).
 #[derive(Clone, Copy, Debug, PartialEq, Eq)]
 pub struct Lexeme {
     pub token: Token,
@@ -60,6 +60,7 @@ fn class_at(classes: &ClassTable, text: &[u8], at: usize) -> u8
     classes[text[at] as usize]
 }
 
+// The error of a character `chr` at `pos` that may not stand there.
 fn illegal_chr(place: Place, pos: usize, chr: u32) -> ParseError
     ensures { refusal_of result ≡ refusal (place_number place) pos chr }
 {
@@ -137,43 +138,41 @@ fn lex_string(text: &[u8], from: usize) -> Result<usize, Wrong>
     }
 }
 
-// Whether `byte` is a blank. The arms are two, since Rattle makes a range of neighbours.
+// Whether `byte` is a blank.
 fn is_blank(byte: u8) -> bool
     ensures { result ≡ is_blank (class_of byte) }
 {
-    match byte {
-        b' ' | b'\n' => true,
-        b'\t' | b'\r' => true,
-        _ => false,
-    }
+    matches!(byte, b' ' | b'\t' | b'\r' | b'\n')
 }
 
-// The first place from `from` on that holds no blank, or the end. The loop counts by hand, as atom_run's: a search of the rest's iterator, tried in both, has
-// to make that rest first, and a tree of short tokens took up to half as long again to read.
+// The first place from `from` on that holds no blank, or the end. It goes over places, as atom_run does: an iterator of the bytes, tried in both, is one of the
+// rest, which has to be made first, and a tree of short tokens took up to half as long again to read.
 pub fn skip_blanks(text: &[u8], from: usize) -> usize
     ensures same { result ≡ skip_blanks (drop from text.now) from }
     ensures after { from ≤ result }
     ensures token { between (drop from text.now) from ≡ between (drop result text.now) result }
 {
-    let mut at = from;
-    while at < text.len() && is_blank(text[at]) {
-        at += 1;
+    for at in from..text.len() {
+        if !is_blank(text[at]) {
+            return at;
+        }
     }
-    at
+    from.max(text.len())
 }
 
-// The end of the run of atom characters that begins at `start`. It counts by hand too, for the same reason. The two are not one function over a test: its
+// The end of the run of atom characters that begins at `start`. The two are not one function over a test: its
 // promise would be one of any test, and each caller needs the definition that is named here.
 pub fn atom_run(text: &[u8], start: usize) -> usize
     ensures same { result ≡ atom_run (drop start text.now) start }
     ensures after { start ≤ result }
     ensures token { AtomTo text.now start result }
 {
-    let mut at = start;
-    while at < text.len() && is_atom_byte(text[at]) {
-        at += 1;
+    for at in start..text.len() {
+        if !is_atom_byte(text[at]) {
+            return at;
+        }
     }
-    at
+    start.max(text.len())
 }
 
 // Whether a `"` stands at `at`.

@@ -7,7 +7,7 @@ mod parser;
 mod plain;
 mod reader;
 
-pub use error::{ParseError, Refusal, answer_number};
+pub use error::{ParseError, Refusal, RefusalNumbers, answer_number};
 pub use lexer::{atom_run, is_quote_at, skip_blanks};
 pub use parser::{Parsed, Parser};
 pub use plain::{PlainItem, plain_item};

@@ -13,7 +13,7 @@ pub struct Parser<'a> {
     pub reader: Reader,
 }
 
-// What next_item hands back: the parser for the next call, and the answer.
+// What next_item hands back: the parser for the next call, and the answer. A refusal has a parser too, so no Result can carry both.
 #[derive(Clone, Copy)]
 pub struct Parsed<'a> {
     pub parser: Parser<'a>,
@@ -38,8 +38,8 @@ impl<'a> Parser<'a> {
         let next = self.reader.next_item(self.text);
         Parsed {
             parser: Parser {
-                text: self.text,
                 reader: next.reader,
+                ..self
             },
             answer: next.answer,
         }

@@ -58,7 +58,7 @@ fn plain_at(text: &[u8], start: usize, lists: usize) -> Option<PlainItem>
 }
 
 // The next item of the text, if the record is sound and the item is plain: a `(`, a `)` that does not end the outermost list, or a run of atom characters with
-// no `"` behind it. For a loop over a whole text, which goes on with next_item where there is none.
+// no `"` behind it. next_item asks it first, and item_ahead where there is none.
 #[inline(always)]
 pub fn plain_item(text: &[u8], reader: Reader) -> Option<PlainItem>
     ensures when { IsSome result ↔ (is_sound (length text.now) reader ≡ true) × IsPlain text.now reader }

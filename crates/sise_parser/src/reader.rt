@@ -11,9 +11,9 @@ use crate::plain::plain_item;
 // Where the reader is in the text: before the first item, inside the outermost list, or after the last item.
 #[derive(Clone, Copy, Debug, PartialEq, Eq)]
 pub enum Phase {
-    Beginning,
-    Parsing,
-    Finishing,
+    Beginning = 0,
+    Parsing = 1,
+    Finishing = 2,
 }
 
 // A number that no phase has, of a reader or of a writer.
@@ -52,7 +52,7 @@ pub enum ParsedItem {
     ListEnd { pos: usize },
 }
 
-// What next_item hands back: the record for the next call, and the item.
+// What next_item hands back: the record for the next call, and the item. A refusal has a record too, so no Result can carry both.
 #[derive(Clone, Copy, Debug, PartialEq, Eq)]
 pub struct Next {
     pub reader: Reader,
@@ -69,7 +69,8 @@ fn lists_fit(phase: Phase, lists: usize) -> bool
     }
 }
 
-// What next_item hands back, from the record's parts, which are handed over one by one since that is faster than a struct.
+// What next_item hands back, from the record's parts. They are handed over one by one, as item_ahead has them: a struct would be made at each call and taken
+// apart here.
 fn answered(
     position: usize,
     phase: Phase,
@@ -88,7 +89,7 @@ fn answered(
     }
 }
 
-// What a token gives before the first item.
+// What a token gives before the first item. It and `inner_item` are document 01's two phases, with other refusals and other records.
 fn first_item(lists: usize, found: Lexeme) -> Next
     ensures { next_as result ≡ in_beginning lists (lexeme_as found) }
 {
@@ -226,10 +227,10 @@ impl Reader {
 pub fn atom_bytes(text: &[u8], place: usize, len: usize) -> &[u8]
     ensures { result.now ≡ part_of text.now place len }
 {
-    if text.len() < place || text.len() - place < len {
-        return &text[..0];
-    }
-    &text[place..place + len]
+    let Some(rest) = text.get(place..) else {
+        return &[];
+    };
+    rest.get(..len).unwrap_or(&[])
 }
 
 // The next item of the text for a record of these parts, which are handed over one by one since that is faster than a struct. Blanks are passed by a loop

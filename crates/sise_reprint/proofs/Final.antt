@@ -42,7 +42,7 @@ reprint_only t text words buffer h =
 
 -- ---- the two laws
 
--- "reprinting the reprint gives the same bytes": it is accepted with every table that holds the nodes and every buffer that holds the bytes, whatever is in them
+-- "reprinting the reprint gives the same bytes": it is accepted with each table that holds the nodes and each buffer that holds the bytes, whatever is in them
 pub reprint_final : (t : ℕ) (text words buffer : List ℕ) {k : ℕ} {out : List ℕ} → reprint t text words buffer ≡ reprinted k out
     → (words' buffer' : List ℕ) → k ≤ length words' / 4 → length out ≤ length buffer'
     → reprint t out words' buffer' ≡ reprinted k out

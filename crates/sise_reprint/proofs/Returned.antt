@@ -1,4 +1,5 @@
--- What the two calls returned is what the definition of a reprint says, both ways: by the contracts an answer means what the definition answers, and loses nothing.
+-- What the two calls returned is what the definition of a reprint says, both ways: by the contracts an answer means what the definition answers, and loses
+-- nothing.
 -- Assumes nothing.
 use Prim.Native.Nat.{ℕ}
 use mathlib.Core.Path.{◌≡◌, sym, ap, ap₂, ◌∙◌}

@@ -6,7 +6,7 @@ use Rattle.std.specs.Prelude.{Result, Ok, Err}
 use Rattle.std.specs.Result.{IsErrAnd}
 use Rattle.std.proofs.lemmas.Result.{err_from_is_err_and}
 use mathlib.Core.Path.{◌≡◌, refl, sym, ap, ◌∙◌}
-use mathlib.Core.List.{List}
+use mathlib.Core.List.{List, ◌++◌}
 use lib.ListN.{length}
 use Rattle.sise_serializer.specs.Bytes.{pasted}
 use Rattle.sise_serializer.specs.Serializer.{Style, Piece, Written, refuse, error_number, DoesAs, place}
@@ -18,7 +18,6 @@ use Rattle.sise_serializer.specs.declared.plan.Planned.{Planned}
 use Rattle.sise_serializer.specs.declared.serializer.Placed.{Placed}
 use Rattle.sise_serializer.specs.declared.serializer.Serializer.{Serializer}
 use Rattle.sise_serializer.specs.declared.serializer.WriteError.{WriteError}
-use Rattle.sise_serializer.proofs.Bytes.{pasted_behind}
 use Rattle.sise_serializer.proofs.Does.{refused_does}
 use Rattle.sise_serializer.proofs.Spots.{find_as, found_ok, not_found_err}
 
@@ -49,11 +48,8 @@ module _ (s : Style) (room : ℕ) (w : Serializer) (b : Piece) (l : Layout) {n :
 -- a plan carried out
 module _ (s : Style) (w : Serializer) (token before : List ℕ) {d : Written} where
   -- what has room is written
-  pub carried_out : {p : Planned} {mid now : List ℕ} → Fits s (length before) w token d p → mid ≡ pasted before w.position (layout_bytes s p.layout) → now ≡ pasted mid p.placed.offset token
-      → DoesAs d w before (wrote_of w (Ok p.placed)) now
-  carried_out f m n =
-      rw f.done
-      (record { serializer = refl; answer = refl; buffer = pasted_behind before w.position _ token m f.offset n (omega (arith, f.offset, f.in_room)) })
+  pub carried_out : {p : Planned} {now : List ℕ} → Fits s (length before) w token d p → now ≡ pasted before w.position (layout_bytes s p.layout ++ token) → DoesAs d w before (wrote_of w (Ok p.placed)) now
+  carried_out f n = rw f.done (record { serializer = refl; answer = refl; buffer = n })
 
   -- a refusal changes nothing
   pub refused_plan : (e : WriteError) (x : Result Placed WriteError) → d ≡ refuse (error_number e) w → IsErrAnd x (λ c. c ≡ e) → DoesAs d w before (wrote_of w x) before

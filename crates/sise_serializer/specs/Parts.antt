@@ -1,4 +1,4 @@
--- What the writer's private functions do.
+-- What the writer's functions below its calls do.
 -- Assumes nothing.
 use Rattle.std.specs.Prelude.{ℕ, ◌+◌, ◌*◌, ◌≤◌, min, Bool, true, cond, List, [], ◌∷◌, leb, length, Result, Ok, Err, Option, Some, None, ok_or}
 use Rattle.sise_serializer.specs.Serializer.{Style, limit, Piece, place, refuse, Written, inner, DoesAs}

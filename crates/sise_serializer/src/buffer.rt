@@ -1,5 +1,5 @@
 // Bytes into a lent buffer: where a token goes, and layout and a token written there.
-ghost use Rattle.std.specs.Prelude.{◌≡◌, [], ◌∷◌, ◌++◌, ◌+◌, ◌*◌, ◌≤◌, leb, length, IfSome};
+ghost use Rattle.std.specs.Prelude.{◌≡◌, [], ◌∷◌, ◌+◌, ◌*◌, ◌≤◌, leb, length, IfSome};
 ghost use Rattle.sise_serializer.specs.Bytes.{pasted, pasted_if, repeat};
 ghost use Rattle.sise_serializer.specs.Plan.{layout_bytes};
 ghost use Rattle.sise_serializer.specs.Parts.{spot_of, gap_bytes, break_bytes};
@@ -7,7 +7,7 @@ ghost use Rattle.sise_serializer.specs.Serializer.{style_of, new_line_of};
 
 use crate::plan::Layout;
 
-// The longest text.
+// The longest text that is written. sise_tree's LONGEST is as large, but the limit of another text: that which a tree call reads (docs/FORMAT.md has both).
 pub const LIMIT: usize = 16777216;
 
 // The two strings that the caller lends for layout.
@@ -64,8 +64,9 @@ pub fn find_spot(
     })
 }
 
-// Copies `src` to the bytes of `buf` that begin at `at`. One byte, as most line breaks are, needs no loop. The loop counts by hand: by copy_from_slice, measured
-// alone, a tree is written five to ten hundredths more slowly, and single calls as fast.
+// Copies `src` to the bytes of `buf` that begin at `at`. One byte, as most line breaks are, needs no loop. The loop counts by hand: by copy_from_slice trees
+// are written more slowly (docs/DECISIONS.md). Here and in the functions below `buf` and `at` are no part `&mut buf[at..]`: the place `at` stands in the
+// definition (`pasted`), and callers go on with the whole buffer.
 pub(crate) fn copy(buf: &mut [u8], at: usize, src: &[u8])
     requires { at + length src.now ≤ length buf.old }
     ensures { buf.new ≡ pasted buf.old at src.now }
@@ -136,13 +137,12 @@ pub(crate) fn write_layout(buf: &mut [u8], at: usize, style: SerializerStyle<'_>
 pub fn paste(buf: &mut [u8], at: usize, src: &[u8])
     ensures { buf.new ≡ pasted_if buf.old at src.now }
 {
-    if buf.len() < at {
+    let Some(left) = buf.len().checked_sub(at) else {
         return;
+    };
+    if src.len() <= left {
+        copy(buf, at, src);
     }
-    if buf.len() - at < src.len() {
-        return;
-    }
-    copy(buf, at, src);
 }
 
 // The space before an item that stays in its line, unless it joins what is before it.
@@ -158,18 +158,13 @@ pub fn write_gap(buf: &mut [u8], at: usize, joins: bool)
 pub fn paste_line(buf: &mut [u8], at: usize, style: SerializerStyle<'_>, times: usize)
     ensures { buf.new ≡ pasted_if buf.old at (new_line_of (style_of style.entry) times) }
 {
-    if buf.len() < at {
+    let Some(behind) = buf.len().checked_sub(at) else {
         return;
-    }
-    let left = buf.len() - at;
-    if left < style.line_break.len() {
+    };
+    let Some(left) = behind.checked_sub(style.line_break.len()) else {
         return;
-    }
-    if has_room(
-        left - style.line_break.len(),
-        times,
-        style.indentation.len(),
-    ) {
+    };
+    if has_room(left, times, style.indentation.len()) {
         write_line(buf, at, style, times);
     }
 }

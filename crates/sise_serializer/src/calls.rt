@@ -29,7 +29,8 @@ pub enum Call<'a> {
 }
 
 impl<'a> Call<'a> {
-    // The call that four words mean; none if the kind is above 4. Kinds are numbers here, since C writes them.
+    // The call that four words mean; none if the kind is above 4. Kinds are numbers here, since C writes them. The words and `atoms` stay two parameters:
+    // each turn takes four of the words away, and `atoms` stays whole.
     #[inline(always)]
     #[tactic(auto, unfolding(crate::specs::Words::call_of))]
     fn of_words(
@@ -72,17 +73,20 @@ pub fn next_call<'a, 'b>(words: &'b [u64], atoms: &'a [u8]) -> Option<(Call<'a>,
     Some((call, behind))
 }
 
+// What the word of a refusal begins with: more than any offset.
+pub const REFUSED: u64 = 4294967296;
+
 // An answer's word, since C reads it: the offset, or 2 ^ 32 and the refusal's number.
 pub fn put_word(answer: Result<usize, WriteError>) -> u64
     ensures { result ≡ answer_word (answer_as answer) }
 {
     match answer {
         Ok(offset) => offset as u64,
-        Err(error) => 4294967296 + u64::from(error.number()),
+        Err(error) => REFUSED + u64::from(error.number()),
     }
 }
 
-// Makes a call.
+// Makes a call on a sound record.
 #[inline(always)]
 fn run_call(
     w: SoundSerializer,
@@ -104,19 +108,15 @@ fn run_call(
 }
 
 impl Serializer {
-    // Makes a call by the method of its own.
+    // Makes a call on any record: what the four methods share. A list of calls tests its first record alone, and goes by run_call.
+    #[inline(always)]
     pub fn make_call(self, call: Call<'_>, style: SerializerStyle<'_>, buf: &mut [u8]) -> Wrote
         ensures { Does (call_as call.entry) (style_of style.entry) self buf.old result buf.new }
     {
-        match call {
-            Call::PutAtom {
-                atom,
-                break_line_at,
-            } => self.put_atom(style, buf, atom, break_line_at),
-            Call::BeginList { break_line_at } => self.begin_list(style, buf, break_line_at),
-            Call::EndList => self.end_list(style, buf),
-            Call::Finish { insert_line_break } => self.finish(style, buf, insert_line_break),
-        }
+        let Some(w) = self.sound() else {
+            return self.wrote(Err(WriteError::UnsoundRecord));
+        };
+        self.wrote(run_call(w, call, style, buf))
     }
 }
 

@@ -14,5 +14,5 @@ pub use plan::{Layout, Planned};
 pub use serializer::{Phase, Placed, Serializer, WriteError, Wrote, phase_after};
 pub use sound_serializer::SoundSerializer;
 
-// A number that is no phase's, the reader's as well.
+// A number that no phase has: one type for the reader's phases and the writer's.
 pub use sise_parser::UnknownPhase;

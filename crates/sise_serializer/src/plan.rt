@@ -50,6 +50,11 @@ impl Planned {
     }
 }
 
+// The six functions that `plan_item`, `plan_end` and `plan_finish` choose from have a frame in common: a layout, the spot, the record behind it. They stay six:
+// each is a case of the definition (`first_item`, `inner_as`, `in_line`, `close_as`, `last`), and one function would take from each its layout, the length of
+// its line and its `behind_..` as a closure, which are all that a case has. `style` and `room` are no struct: `room` is the length of the buffer, or the room
+// that a tree is measured in. An item is planned by `len` and `is_list`, and not by its token: the walk that measures a tree goes by lengths, and writes no
+// token.
 impl SoundSerializer {
     // The spot of a token of `len` bytes behind its layout, from the writer's position on.
     #[inline(always)]

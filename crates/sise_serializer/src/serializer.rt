@@ -1,6 +1,8 @@
-// The writer's record and its four calls. A method tests the record and goes on to the function below that wants a sound one; that one plans the call, and
-// writes only what has room. Those are made part of their callers, so that no record goes through memory between them.
-ghost use Rattle.std.specs.Prelude.{◌≡◌, false, MatchOption};
+// The writer's record and its four calls. Each method goes on to `make_call`, which tests the record and runs the function below that wants a sound one; that
+// one plans the call, and writes only what has room. Those are made part of their callers, so that no record goes through memory between them.
+ghost use Rattle.std.specs.Prelude.{◌≡◌, false, ◌+◌, ◌≤◌, ◌++◌, length, MatchOption};
+ghost use Rattle.sise_serializer.specs.Bytes.{pasted};
+ghost use Rattle.sise_serializer.specs.Plan.{layout_bytes};
 ghost use Rattle.sise_util.specs.Atom.{is_atom};
 ghost use Rattle.sise_serializer.specs.Serializer.{fresh_serializer, style_of, lists_fit, last_break, is_sound, write_refusal, phase_after};
 ghost use Rattle.sise_serializer.specs.Calls.{Does, put_atom_call, begin_list_call, end_list_call, finish_call};
@@ -8,20 +10,23 @@ ghost use Rattle.sise_serializer.specs.Parts.{wrote_of, Makes, PutsItem};
 ghost use Rattle.sise_serializer.specs.Phases.{DecodesPhase};
 
 use crate::buffer::{LIMIT, SerializerStyle, write_layout};
+use crate::calls::Call;
+use crate::plan::Planned;
 use crate::sound_serializer::SoundSerializer;
-use crate::token::{Atom, ListStart, Token};
-use sise_parser::{Refusal, UnknownPhase};
+use crate::token::{Atom, ListEnd, ListStart, NoBytes, Token};
+use sise_parser::{Refusal, RefusalNumbers, UnknownPhase};
 use sise_util::check_atom;
 
 // Where the writer is: before the first item, inside the outermost list, after the last item, or after an accepted finish.
 #[derive(Clone, Copy, Debug, PartialEq, Eq)]
 pub enum Phase {
-    Beginning,
-    Writing,
-    Finished,
-    Done,
+    Beginning = 0,
+    Writing = 1,
+    Finished = 2,
+    Done = 3,
 }
 
+// The phase with a number. The reader's phases have an impl of the same shape and other names and numbers.
 impl TryFrom<u64> for Phase {
     type Error = UnknownPhase;
 
@@ -82,20 +87,12 @@ pub struct Placed {
 impl Refusal for WriteError {
     ghost meaning = { write_refusal };
 
-    fn number(self) -> u32 {
-        self as u32
-    }
-
-    fn place(self) -> usize {
-        0
-    }
-
-    fn code(self) -> u32 {
-        0
+    fn numbers(self) -> RefusalNumbers {
+        RefusalNumbers::unplaced(self as u32)
     }
 }
 
-// Whether so many lists may be open in a phase: one at least exactly while writing.
+// Whether so many lists may be open in a phase: one at least exactly while writing. The reader's is another function: its phases are other ones.
 fn lists_fit(phase: Phase, lists: usize) -> bool
     ensures { result ≡ lists_fit phase lists }
 {
@@ -193,30 +190,28 @@ impl Serializer {
     ) -> Wrote
         ensures { Does (put_atom_call atom.now break_line_at) (style_of style.entry) self buf.old result buf.new }
     {
-        let Some(w) = self.sound() else {
-            return self.wrote(Err(WriteError::UnsoundRecord));
-        };
-        self.wrote(write_atom(w, style, buf, atom, break_line_at))
+        self.make_call(
+            Call::PutAtom {
+                atom,
+                break_line_at,
+            },
+            style,
+            buf,
+        )
     }
 
     // Begins a list. Inside another it goes on a new line if the line is at least `break_line_at` bytes long.
     pub fn begin_list(self, style: SerializerStyle<'_>, buf: &mut [u8], break_line_at: u64) -> Wrote
         ensures { Does (begin_list_call break_line_at) (style_of style.entry) self buf.old result buf.new }
     {
-        let Some(w) = self.sound() else {
-            return self.wrote(Err(WriteError::UnsoundRecord));
-        };
-        self.wrote(open_list(w, style, buf, break_line_at))
+        self.make_call(Call::BeginList { break_line_at }, style, buf)
     }
 
     // Ends the innermost list that is open.
     pub fn end_list(self, style: SerializerStyle<'_>, buf: &mut [u8]) -> Wrote
         ensures { Does end_list_call (style_of style.entry) self buf.old result buf.new }
     {
-        let Some(w) = self.sound() else {
-            return self.wrote(Err(WriteError::UnsoundRecord));
-        };
-        self.wrote(close_list(w, style, buf))
+        self.make_call(Call::EndList, style, buf)
     }
 
     // Finishes the text. Only after that is it whole.
@@ -228,11 +223,25 @@ impl Serializer {
     ) -> Wrote
         ensures { Does (finish_call insert_line_break) (style_of style.entry) self buf.old result buf.new }
     {
-        let Some(w) = self.sound() else {
-            return self.wrote(Err(WriteError::UnsoundRecord));
-        };
-        self.wrote(finish_text(w, style, buf, insert_line_break))
+        self.make_call(Call::Finish { insert_line_break }, style, buf)
     }
+}
+
+// Writes what a plan says from the writer's position on: its layout, and behind that its token.
+#[inline(always)]
+fn put_planned<T: Token>(
+    w: SoundSerializer,
+    style: SerializerStyle<'_>,
+    buf: &mut [u8],
+    planned: Planned,
+    token: T,
+)
+    requires offset { planned.placed.offset ≡ w.serializer.position + length (layout_bytes (style_of style) planned.layout) }
+    requires room { planned.placed.offset + length (T.bytes token) ≤ length buf.old }
+    ensures { buf.new ≡ pasted buf.old w.serializer.position (layout_bytes (style_of style.entry) planned.layout ++ T.bytes token) }
+{
+    write_layout(buf, w.serializer.position, style, planned.layout);
+    token.put(buf, planned.placed.offset);
 }
 
 // ---- put_atom and begin_list; w, style and buf are three parameters, since buf is lent to be written and the others are read: a struct of them is no plainer,
@@ -245,6 +254,7 @@ fn is_atom(atom: &[u8]) -> bool
     check_atom(atom).is_some()
 }
 
+// put_atom on a sound record: an item, if the bytes are an atom.
 #[inline(always)]
 pub(crate) fn write_atom(
     w: SoundSerializer,
@@ -261,6 +271,7 @@ pub(crate) fn write_atom(
     write_item(w, style, buf, Atom(atom), break_line_at)
 }
 
+// begin_list on a sound record.
 #[inline(always)]
 pub(crate) fn open_list(
     w: SoundSerializer,
@@ -291,8 +302,7 @@ fn write_item<T: Token>(
         token.is_list(),
         break_line_at,
     )?;
-    write_layout(buf, w.serializer.position, style, planned.layout);
-    token.put(buf, planned.placed.offset);
+    put_planned(w, style, buf, planned, token);
     Ok(planned.placed)
 }
 
@@ -309,6 +319,7 @@ pub fn phase_after(lists: usize) -> Phase
     }
 }
 
+// end_list on a sound record.
 #[inline(always)]
 pub(crate) fn close_list(
     w: SoundSerializer,
@@ -318,13 +329,13 @@ pub(crate) fn close_list(
     ensures { Makes end_list_call (style_of style.entry) w.serializer buf.old result buf.new }
 {
     let planned = w.plan_end(style, buf.len())?;
-    write_layout(buf, w.serializer.position, style, planned.layout);
-    buf[planned.placed.offset] = b')';
+    put_planned(w, style, buf, planned, ListEnd);
     Ok(planned.placed)
 }
 
 // ---- finish
 
+// finish on a sound record: it may write a line break, and no token.
 #[inline(always)]
 pub(crate) fn finish_text(
     w: SoundSerializer,
@@ -335,6 +346,6 @@ pub(crate) fn finish_text(
     ensures { Makes (finish_call insert_line_break) (style_of style.entry) w.serializer buf.old result buf.new }
 {
     let planned = w.plan_finish(style, buf.len(), insert_line_break)?;
-    write_layout(buf, w.serializer.position, style, planned.layout);
+    put_planned(w, style, buf, planned, NoBytes);
     Ok(planned.placed)
 }

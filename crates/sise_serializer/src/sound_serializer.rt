@@ -13,7 +13,7 @@ pub struct SoundSerializer {
 }
 
 impl SoundSerializer {
-    // Behind the first item, whose token has `len` bytes. After an atom the text has no other.
+    // Behind the first item, whose token has `len` bytes. After an atom the text has no other. `len` and `is_list` are no token, as in plan.rt.
     #[inline(always)]
     pub fn behind_first(self, position: usize, len: usize, is_list: bool) -> Serializer
         ensures { result ≡ behind_first self.serializer position len is_list }
@@ -75,7 +75,8 @@ impl SoundSerializer {
         }
     }
 
-    // Behind a `)` on a new line of `line_len` bytes. Then a break is in every open list, and stays in those left.
+    // Behind a `)` on a new line of `line_len` bytes. Then a break is in every open list, and stays in those left. It and the next stay
+    // two functions: this one counts a break and indentations and sets `broken` and the line, the next only adds to the line.
     #[inline(always)]
     pub fn behind_end_on_new_line(self, position: usize, line_len: usize) -> Serializer
         ensures { result ≡ behind_end_on_new_line self.serializer position line_len }

@@ -1,4 +1,4 @@
-// What an item puts into the text. Each item's steps are made for its token, so they have one caller, and the record stays in registers.
+// What a call puts behind its layout. Each call's steps are made for its token, so they have one caller, and the record stays in registers.
 ghost use Rattle.std.specs.Prelude.{◌≡◌, ℕ, Bool, true, false, List, [], ◌∷◌, ◌+◌, ◌≤◌, length};
 ghost use Rattle.sise_serializer.specs.Bytes.{pasted};
 
@@ -13,9 +13,11 @@ pub(crate) trait Token: Copy {
     fn is_list(self) -> bool
         ensures { result ≡ is_list };
 
+    // How many bytes it has.
     fn len(self) -> usize
         ensures { result ≡ length (bytes self) };
 
+    // Writes its bytes at `at`; buffer and place as in `copy`.
     fn put(self, buf: &mut [u8], at: usize)
         requires { at + length (bytes self) ≤ length buf.old }
         ensures { buf.new ≡ pasted buf.old at (bytes self) };
@@ -63,4 +65,46 @@ impl Token for ListStart {
     fn put(self, buf: &mut [u8], at: usize) {
         buf[at] = b'(';
     }
+}
+
+// A list ends with `)`.
+#[derive(Clone, Copy)]
+pub(crate) struct ListEnd;
+
+impl Token for ListEnd {
+    ghost bytes = { λ _. 41 ∷ [] };
+
+    ghost is_list = { false };
+
+    fn is_list(self) -> bool {
+        false
+    }
+
+    fn len(self) -> usize {
+        1
+    }
+
+    fn put(self, buf: &mut [u8], at: usize) {
+        buf[at] = b')';
+    }
+}
+
+// finish puts no token behind its layout.
+#[derive(Clone, Copy)]
+pub(crate) struct NoBytes;
+
+impl Token for NoBytes {
+    ghost bytes = { λ _. [] };
+
+    ghost is_list = { false };
+
+    fn is_list(self) -> bool {
+        false
+    }
+
+    fn len(self) -> usize {
+        0
+    }
+
+    fn put(self, _: &mut [u8], _: usize) {}
 }

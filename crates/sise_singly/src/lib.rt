@@ -1,5 +1,5 @@
-// The reader's and the writer's calls made one at a time, for a program that measures them. It is a library of its own: where two callers share the steps,
-// the compiler joins them into neither, and both are slower.
+// The reader's and the writer's calls made one at a time, for a program that measures them. It is a library of its own: sise_c exports what include/sise.h
+// declares, and nothing for measurements.
 #![tactic(auto)]
 
 ghost use Rattle.std.specs.Prelude.{◌≡◌};
@@ -10,7 +10,8 @@ ghost use Rattle.sise_singly.specs.Count.{count_items};
 use sise_parser::Reader;
 use sise_serializer::{Ran, Serializer, SerializerStyle, next_call, put_word};
 
-// How many items a reader of the text gives before its first refusal; a whole text is refused with 9 after its last item.
+// How many items a reader of the text gives before its first refusal; a whole text is refused with 9 after its last item. The numbers of the `for` bound
+// the calls; the record goes from turn to turn, and there is no sequence of items for an iterator to go over.
 #[unsafe(no_mangle)]
 pub extern "C" fn sise_count_items(text: &[u8]) -> u64
     ensures { result ≡ count_items text.now }
@@ -26,7 +27,8 @@ pub extern "C" fn sise_count_items(text: &[u8]) -> u64
     text.len() as u64 + 1
 }
 
-// Does what write_calls of sise_serializer does, with the whole record handed to each method and back, as a program does that makes the calls one at a time.
+// Does what write_calls of sise_serializer does, with each call made by make_call, which tests the record, as a program does that makes the calls one at a
+// time. So the loop is that of write_calls_from with another call in it, and in that call lies what is measured.
 fn run_calls(
     words: &[u64],
     atoms: &[u8],

@@ -1,5 +1,5 @@
--- The way of a lookup, turn by turn: each turn looks at one node, and where the code stands in the table, with the children left to step past and what is
--- left of the path, the answer is the whole path's.
+-- The way of a lookup, turn by turn: a turn of the path looks at a list and passes the children before the wanted one, and where the code stands in the table,
+-- with the children left to step past and what is left of the path, the answer is the whole path's.
 -- Assumes nothing.
 use Prim.Native.Nat.{ℕ, zero, suc, ◌+◌, ◌-◌, ◌/◌, ◌≤◌, ◌<◌}
 use native.Mathlib.Numerals.{add-one}

@@ -49,6 +49,7 @@ abbrev pub past : ℕ → ℕ → (ℕ → Way) → Option ℕ → Lookup
 past n k on (Some j) = looked_up (n + k) (on j)
 past n k on None = refused 15
 
+-- the lookup goes on so from node i with k children to pass, whatever has been looked at and comes behind
 abbrev pub Passes : List ℕ → ℕ → ℕ → Option ℕ → Type 0
 Passes words i k r = (n : ℕ) (on : ℕ → Way) → looked_up n (passing words k i on) ≡ past n k on r
 

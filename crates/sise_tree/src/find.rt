@@ -18,6 +18,7 @@ impl<'a> TreeTable<'a> {
         ensures same { Passes self.entry.table.now first children result }
         ensures forward { IfSome result (λ j. first + children ≤ j) }
     {
+        // By try_fold the same lines stand in a closure, behind a `?` and an Option of its own: no plainer.
         let mut at = first;
         for _ in 0..children {
             let span = self.node(at)?.span;

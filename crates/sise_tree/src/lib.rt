@@ -9,5 +9,5 @@ mod whole;
 
 pub use find::Found;
 pub use parse::{TreeError, TreeRead, parse_tree};
-pub use tree::{Held, LONGEST, NodeWords, PathError, TreeTable, wide};
+pub use tree::{LONGEST, NodeWords, PathError, TableError, TreeTable, wide};
 pub use whole::parse_text;

@@ -7,7 +7,7 @@ ghost use Rattle.sise_tree.specs.ParseTree.{read_node, parse_tree, DoesParse};
 ghost use Rattle.sise_tree.specs.Filling.{DoesCount, put_at, CanAttach, Attaches, CanClose, Closes, CanPut, Puts, CanTurn, Turns, CanStart, Starts, CanFill, DoesFill};
 
 use crate::tree::{LONGEST, NodeWords, wide};
-use sise_parser::{ParseError, ParsedItem, Reader, Refusal};
+use sise_parser::{ParseError, ParsedItem, Reader, Refusal, RefusalNumbers};
 use sise_util::{check_atom_prefix, kind_number};
 
 // Why no tree is read.
@@ -32,40 +32,26 @@ impl From<ParseError> for TreeError {
 impl Refusal for TreeError {
     ghost meaning = { tree_refusal };
 
-    fn number(self) -> u32 {
+    fn numbers(self) -> RefusalNumbers {
         match self {
-            TreeError::Refused(error) => error.number(),
-            TreeError::UnexpectedListEnd { .. } => 12,
-            TreeError::TextTooLong => 13,
-            TreeError::TableFull => 14,
-        }
-    }
-
-    fn place(self) -> usize {
-        match self {
-            TreeError::Refused(error) => error.place(),
-            TreeError::UnexpectedListEnd { pos } => pos,
-            TreeError::TextTooLong | TreeError::TableFull => 0,
-        }
-    }
-
-    fn code(self) -> u32 {
-        match self {
-            TreeError::Refused(error) => error.code(),
-            _ => 0,
+            TreeError::Refused(error) => error.numbers(),
+            TreeError::UnexpectedListEnd { pos } => RefusalNumbers::placed(12, pos),
+            TreeError::TextTooLong => RefusalNumbers::unplaced(13),
+            TreeError::TableFull => RefusalNumbers::unplaced(14),
         }
     }
 }
 
-// What parse_tree hands back: the record behind the node, and the number of nodes.
+// What parse_tree hands back: the record behind the node, and the number of nodes. The record stands beside the answer, since a refusal has one too.
 #[derive(Clone, Copy, Debug, PartialEq, Eq)]
 pub struct TreeRead {
     pub reader: Reader,
     pub answer: Result<usize, TreeError>,
 }
 
-// Reads the node that is due and counts its nodes. The loop asks for items until one ends the node, with the record from turn to turn; there is no sequence to
-// go over. That of fill_nodes does too, but it keeps other things from turn to turn, and ends by another test.
+// Reads the node that is due and counts its nodes. The loop asks for items until one ends the node. No iterator over the reader, since the record behind the
+// last item is handed back, on a refusal too, and an iterator keeps it to itself. The loop of fill_nodes keeps other things from turn to turn, and ends by
+// another test.
 pub(crate) fn count_nodes(text: &[u8], reader: Reader) -> TreeRead
     ensures { DoesCount (read_node text.now reader) result }
 {
@@ -104,15 +90,13 @@ pub(crate) fn count_nodes(text: &[u8], reader: Reader) -> TreeRead
     TreeRead { reader: r, answer }
 }
 
-// Node `i`'s words become these: one by one, since a slice to copy would have to be made of them first.
+// Node `i`'s words become these.
 fn put(table: &mut [u32], i: usize, node: NodeWords)
     requires { i < length table.old / 4 }
     ensures { table.new ≡ put_at table.old i node.kind node.first node.second node.span }
 {
-    table[4 * i] = node.kind;
-    table[4 * i + 1] = node.first;
-    table[4 * i + 2] = node.second;
-    table[4 * i + 3] = node.span;
+    let words = [node.kind, node.first, node.second, node.span];
+    table[4 * i..4 * i + 4].copy_from_slice(&words);
 }
 
 // The first word of the atom from `pos` to `end`.
@@ -123,8 +107,8 @@ fn kind_at(text: &[u8], pos: usize, end: usize) -> u32
     kind_number(check_atom_prefix(&text[pos..], end - pos))
 }
 
-// Where the filling stands: the index of the next node, and that of the innermost open list. Where none is open, both are 0: by document 02 the root has the
-// distance 0, and so is its own parent, and a number does where an Option would be asked at each node.
+// Where the filling stands: the index of the next node, and that of the innermost open list. Before the root, where none is open, both are 0: document 02 gives
+// the root the distance 0, so the difference of the two is its third word, as it is any other list's. An Option would be asked at each node.
 #[derive(Clone, Copy)]
 struct Mark {
     next: u32,
@@ -154,6 +138,7 @@ impl Mark {
         let i = wide(self.parent);
         let parent = self.parent - table[4 * i + 2];
         table[4 * i + 3] = self.next - self.parent;
+        // The closed list counts as a child where it stands itself.
         let list = Mark {
             next: self.parent,
             parent,

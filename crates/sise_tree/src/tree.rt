@@ -4,25 +4,23 @@ ghost use Rattle.sise_tree.specs.Tree.{kind, linked, fills_in, fits_kind};
 ghost use Rattle.sise_tree.specs.Parts.{SameFrom, good_in, atom_holds_at};
 ghost use Rattle.sise_tree.specs.NodeWords.{node_words};
 ghost use Rattle.sise_tree.specs.Decision.{decide};
-ghost use Rattle.sise_tree.specs.Held.{held_if, held_as, is_tree};
+ghost use Rattle.sise_tree.specs.Held.{held_if, held_as};
 ghost use Rattle.sise_tree.specs.IndexPath.{index_path};
 ghost use Rattle.sise_tree.specs.Answers.{indexed_as, path_refusal};
 
-use sise_parser::Refusal;
-use sise_util::{AtomKind, check_atom_prefix, kind_number};
+use sise_parser::{Refusal, RefusalNumbers};
+use sise_util::{AtomKind, check_atom_prefix};
 
 // The longest text of a tree call.
 pub const LONGEST: usize = 16777216;
 
-// What a table holds over a text. Three answers, and no Option or Result of two: one caller tells the last from the others, another the first.
+// Why a table holds no tree of atoms over a text.
 #[derive(Clone, Copy, Debug, PartialEq, Eq)]
-pub enum Held {
-    // A tree, and each atom of it is one.
-    Tree,
-    // A tree, but the bytes of some atom are none.
-    NoAtom,
-    // No tree.
+pub enum TableError {
+    // It holds no tree.
     NotATree,
+    // It holds a tree, but the bytes of some atom are none.
+    NoAtom,
 }
 
 // Why no node is found at the end of a path, by document 01's numbers.
@@ -36,16 +34,8 @@ pub enum PathError {
 impl Refusal for PathError {
     ghost meaning = { path_refusal };
 
-    fn number(self) -> u32 {
-        self as u32
-    }
-
-    fn place(self) -> usize {
-        0
-    }
-
-    fn code(self) -> u32 {
-        0
+    fn numbers(self) -> RefusalNumbers {
+        RefusalNumbers::unplaced(self as u32)
     }
 }
 
@@ -57,7 +47,8 @@ pub struct TreeTable<'a> {
 }
 
 // A node's four words: of a list 0, its number of children, the distance back to its parent and its span; of an atom its kind, its place, its length and 1.
-// Four words and no enum of the two, since document 01 lays a table out so: there is no heap, and C reads the words.
+// Four numbers and no enum of the two: they are read from a lent table, whose words may be any, a first word too that is none of the four kinds; both kinds use
+// all four; and C reads the words as document 01 lays them out.
 #[derive(Clone, Copy, Debug, PartialEq, Eq)]
 pub struct NodeWords {
     pub kind: u32,
@@ -66,6 +57,7 @@ pub struct NodeWords {
     pub span: u32,
 }
 
+// A word as an index: a cast, with the promise that the index is below 2^32, which the sums of indices need. The cast alone does not promise it.
 pub fn wide(x: u32) -> usize
     ensures same { result ≡ x }
     ensures small { result < 2 ^ 32 }
@@ -73,7 +65,8 @@ pub fn wide(x: u32) -> usize
     x as usize
 }
 
-// Word `j` of node `i`, the first of which is word 0.
+// Word `j` of node `i`, the first of which is word 0. It and is_list read one word, and do not go by `node`, which reads four and answers an Option, also where
+// the node is known to be in the table.
 pub(crate) fn word(table: &[u32], i: usize, j: usize) -> usize
     requires { 4 * i + j < length table.now }
     ensures same { result ≡ get_or table.now (4 * i + j) 0 }
@@ -151,20 +144,21 @@ fn fills(table: &[u32], children: usize, end: usize) -> bool
     at == end
 }
 
-// What a table holds that is one atom with the first word `kind` over these bytes: a tree if the word is the number of their kind; where they are no atom, each
-// of the three numbers passes.
-fn kind_holds(kind: u32, atom: Option<AtomKind>) -> Held
+// Whether a table that is one atom with the first word `kind` over these bytes holds a tree of atoms: it does if the word is the number of their kind; where
+// they are no atom, each of the three numbers makes a tree.
+fn kind_holds(kind: u32, atom: Option<AtomKind>) -> Result<(), TableError>
     ensures { result ≡ held_if (fits_kind atom kind) (is_some atom) }
 {
     match atom {
-        Some(own) if kind == own as u32 => Held::Tree,
-        None if 1 <= kind && kind <= 3 => Held::NoAtom,
-        _ => Held::NotATree,
+        Some(own) if kind == own as u32 => Ok(()),
+        None if 1 <= kind && kind <= 3 => Err(TableError::NoAtom),
+        _ => Err(TableError::NotATree),
     }
 }
 
 impl<'a> TreeTable<'a> {
-    // Node `i`'s words, where the table has them all.
+    // Node `i`'s words, where the table has them all. The test of `i` comes first, since 4 * i may be past a usize; behind it the words by index are as
+    // plain as a chunk of four, whose words are read by index too.
     #[inline(always)]
     pub fn node(self, i: usize) -> Option<NodeWords>
         ensures { result ≡ node_words self.entry.table.now i }
@@ -183,22 +177,20 @@ impl<'a> TreeTable<'a> {
 
     // What the first node is: it is in the table and has one of the two forms, and an atom's bytes are one, or not. A list's third word is looked at where its
     // parent steps over it.
-    fn node_holds(self) -> Held
+    fn node_holds(self) -> Result<(), TableError>
         ensures { result ≡ held_if (good_in self.entry.text.now self.entry.table.now 0) (atom_holds_at self.entry.text.now self.entry.table.now 0) }
     {
-        let Some(node) = self.node(0) else {
-            return Held::NotATree;
-        };
+        let node = self.node(0).ok_or(TableError::NotATree)?;
         let first = wide(node.first);
         if node.kind == 0 {
             if fills(self.table, first, wide(node.span)) {
-                return Held::Tree;
+                return Ok(());
             }
-            return Held::NotATree;
+            return Err(TableError::NotATree);
         }
         let len = wide(node.second);
         if node.span != 1 || self.text.len() < first + len {
-            return Held::NotATree;
+            return Err(TableError::NotATree);
         }
         kind_holds(node.kind, check_atom_prefix(&self.text[first..], len))
     }
@@ -206,29 +198,29 @@ impl<'a> TreeTable<'a> {
     // What the table holds over the text. Each node is tested by itself, as the first of the part of the table from it on, which is enough
     // (proofs/LocalLaws.antt), and stepped over once, by its list; an atom's bytes are looked at once. So the time is linear in the first node's span and the
     // bytes of its atoms.
-    pub fn holds_tree(self) -> Held
+    pub fn holds_tree(self) -> Result<(), TableError>
         ensures { result ≡ held_as self.entry.text.now (decide self.entry.text.now self.entry.table.now) }
     {
-        let Some(root) = self.node(0) else {
-            return Held::NotATree;
-        };
+        let root = self.node(0).ok_or(TableError::NotATree)?;
         let end = wide(root.span);
         if end == 0 || end > self.table.len() / 4 {
-            return Held::NotATree;
+            return Err(TableError::NotATree);
         }
-        let mut all = true;
+        let mut held = Ok(());
+        // By the index, since each node is looked at with all of the table behind it: an iterator of the library gives parts of one size.
         for i in 0..end {
             let part = TreeTable {
                 table: &self.table[4 * i..],
                 text: self.text,
             };
-            let held = part.node_holds();
-            if let Held::NotATree = held {
-                return Held::NotATree;
+            if let Err(error) = part.node_holds() {
+                if let TableError::NotATree = error {
+                    return Err(error);
+                }
+                held = Err(error);
             }
-            all = all && matches!(held, Held::Tree);
         }
-        if all { Held::Tree } else { Held::NoAtom }
+        held
     }
 
     // The node at the end of the path: its index in the table. An index of the path counts a list's children from 0.
@@ -238,8 +230,10 @@ impl<'a> TreeTable<'a> {
         if self.text.len() > LONGEST {
             return Err(PathError::TextTooLong);
         }
-        if let Held::NotATree = self.holds_tree() {
-            return Err(PathError::NotATree);
+        if let Err(error) = self.holds_tree() {
+            if let TableError::NotATree = error {
+                return Err(PathError::NotATree);
+            }
         }
         let found = self.find_path(path)?;
         Ok(found.index)

@@ -138,7 +138,8 @@ module _ (s : Style) (b : List ℕ) (w : Serializer) (text words : List ℕ) (ca
       let short : length b' < (call b).serializer.position = omega (arith, (size_between e).bytes) in
       ap (enquiry w) ((tree_measured s w text calls b words b' h).short short)
 
--- ---- of the programs: what measure_tree answers, handed to commit_tree with a buffer of the length asked for, does what serialize_tree does; and so for whole texts
+-- ---- of the programs: what measure_tree answers, handed to commit_tree with a buffer of the length asked for, does what serialize_tree does; and so for whole
+-- texts
 
 pub pair_tree : (s : Style) (b : List ℕ) (w : Serializer) (text words : List ℕ) (t : ℕ) (m : Result TreeSize WriteTreeError) {r : TreeWrote} {now : List ℕ}
     → MeasuresTree s (length b) w text words t m → CommitsTree s b w text words t m r now

@@ -1,5 +1,5 @@
--- What a tree call does in one buffer, written or measured, decides what it does in every other: if it is written there and leaves the position n, each buffer of
--- n bytes or more has the same record, answer and bytes, and each shorter one 22; and what 16,777,216 bytes refuse, every buffer refuses with the same number.
+-- What a tree call does in one buffer, written or measured, decides what it does in every other: if it is written there and leaves the position n, each buffer
+-- of n bytes or more has the same record, answer and bytes, each shorter one 22; and what 16,777,216 bytes refuse, each buffer refuses by the same number.
 -- Assumes nothing.
 use Prim.Native.Nat.{ℕ, ◌≤◌, ◌<◌}
 use native.Mathlib.Omega.{arith}

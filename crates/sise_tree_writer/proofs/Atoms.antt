@@ -5,15 +5,12 @@ use native.Mathlib.Omega.{arith}
 use mathlib.Core.Path.{◌≡◌, refl, sym, ◌∙◌}
 use mathlib.Core.Bool.{true}
 use mathlib.Core.List.{List}
-use lib.Dec.{eqb, leb}
 use lib.ListN.{length}
-use borrow.Author.Tests.{leb-true, ne_eqb}
 use Rattle.sise_util.specs.Atom.{is_atom}
-use Rattle.sise_util.proofs.Ranges.{and_first}
 use Rattle.sise_parser.specs.Reader.{part_of}
-use Rattle.sise_tree.specs.Tree.{kind, first, second, span, sits, good}
+use Rattle.sise_tree.specs.Tree.{kind, first, second, span}
 use Rattle.sise_tree.specs.Decision.{decide, is_some}
-use Rattle.sise_tree.proofs.TreeLaws.{anded, size_pos}
+use Rattle.sise_tree.proofs.TreeLaws.{size_pos}
 use Rattle.sise_tree.proofs.LocalLaws.{held}
 use Rattle.sise_tree.proofs.AtomsHold.{at_atom, tree_each}
 use Rattle.sise_tree_writer.specs.Writing.{Checked}
@@ -24,18 +21,11 @@ module _ (text words : List ℕ) where
   pub root_there : is_some (decide text words) ≡ true → 3 < length words
   root_there h = let (n, d, i) = held text words h in omega (arith, i.fits, size_pos n)
 
-  -- a node of the tree is in the table, and if it is no list its bytes are in the text
+  -- a node of the tree is in the table
   pub node_there : is_some (decide text words) ≡ true → (k : ℕ) → k < span words 0 → 4 * (k + 1) ≤ length words
   node_there h k o = let (n, d, i) = held text words h in omega (arith, i.fits, i.spans)
 
-  pub atom_in_text : is_some (decide text words) ≡ true → (k : ℕ) → k < span words 0 → (kind words k ≡ 0 → ⊥) → first words k + second words k ≤ length text
-  unfolding good sits
-  atom_in_text h k o f =
-      let (n, d, i) = held text words h in
-      let fine = rw (ne_eqb (kind words k) 0 f, good) at (i.tree.each k o) in
-      leb-true _ _ (anded {a = eqb (span words k) 1} fine λ x y. and_first (leb (first words k + second words k) (length text)) _ y)
-
-  -- and was checked
+  -- and if it is no list its bytes were checked
   pub atom_good : Checked text words → (k : ℕ) → k < span words 0 → (kind words k ≡ 0 → ⊥) → is_atom (part_of text (first words k) (second words k)) ≡ true
   atom_good c k o f =
       let (n, d, i) = held text words c.holds in

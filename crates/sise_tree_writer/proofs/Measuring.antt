@@ -23,8 +23,8 @@ use Rattle.sise_tree.specs.ParseTree.{longest}
 use Rattle.sise_tree.specs.Answers.{answered, refused_with, number_of}
 use Rattle.sise_tree.proofs.LocalLaws as local
 use Rattle.sise_tree.specs.Held.{held_as}
-use Rattle.sise_tree.specs.declared.tree.Held.{Held}
-use Rattle.sise_tree.specs.declared.tree.Held.TheVariants as held
+use Rattle.sise_tree.specs.declared.tree.TableError.{TableError}
+use Rattle.sise_tree.specs.declared.tree.TableError.TheVariants as table
 use Rattle.sise_tree.proofs.HeldLaws.{flawed_held, none_held}
 use Rattle.sise_tree_writer.specs.Answers.{error_number, refusal_of}
 use Rattle.sise_tree_writer.specs.SerializeTree.{fits, Writes, refuse, first_offset, written, is_over, write_node, write_tree, DoesMeasure}
@@ -96,15 +96,14 @@ module _ (s : Style) (b : List ℕ) (w : Serializer) (text words : List ℕ) (ca
   unfolding write_node
   node_checked k o f = let (n, d, h) = local.held text words k.holds in rw (d, k.atoms n d, o) (f n d)
 
--- what the table holds is no tree of atoms: 15 or 17
+-- the table holds no tree of atoms: 15 or 17
 pub unheld_measures : (s : Style) (b : List ℕ) (w : Serializer) (text words : List ℕ) (calls : Node → List Call) → length text ≤ longest → is_sound w ≡ true
-    → (h : Held) → h ≡ held_as text (decide text words) → (h ≡ held.Tree → ⊥)
-    → DoesMeasure (write_tree s b w text words calls) (record { serializer = w; answer = Err (refusal_of h) })
-unheld_measures s b w text words calls short fine held.Tree e f = absurd (f refl)
-unheld_measures s b w text words calls short fine held.NoAtom e f =
+    → (e : TableError) → Err e ≡ held_as text (decide text words)
+    → DoesMeasure (write_tree s b w text words calls) (record { serializer = w; answer = Err (refusal_of e) })
+unheld_measures s b w text words calls short fine table.NoAtom e =
     let (n, d, a) = flawed_held text (decide text words) e refl in
     rw (tree_atoms s b w text words calls short fine d a) (refused_measures b w InvalidAtom refl)
-unheld_measures s b w text words calls short fine held.NotATree e f =
+unheld_measures s b w text words calls short fine table.NotATree e =
     rw (tree_none s b w text words calls short fine (none_held text (decide text words) e refl)) (refused_measures b w NotATree refl)
 
 -- a tree call is refused before its calls are made, with 11 to 19, whatever they are and whatever the buffer is; or it comes to what they write

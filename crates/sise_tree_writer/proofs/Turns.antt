@@ -53,7 +53,7 @@ AtDue words text t (Some p) rest = At words text t p rest
 -- one turn: its call is the first of those left, and the walk goes on with the others
 pub record Turned (words text : List ℕ) (t : ℕ) (p : Place) (rest : List Call) (x : Turn) : Type 0 where
   pub more : List Call
-  pub due : rest ≡ turn_call x (cond p.begins largest t) t ∷ more
+  pub due : rest ≡ turn_call x t ∷ more
   pub next : AtDue words text t (passed words p x) more
   pub passable : Passable words p x
 
@@ -72,10 +72,10 @@ module _ (words text : List ℕ) (t : ℕ) where
   root_turn n h turn.End z = absurd (omega (arith, z, h.spans, size_pos n))
   root_turn (atom w m k) h turn.List z = let s = stands words 0 (holds_words h.holds) in absurd (sits_kind text w m k h.holds.in_text (sym s.kinds ∙ z.1))
   root_turn (list c) h turn.List z = record { more = pending text largest t c []; due = refl; next = inside c [] (walk_root c h) refl refl; passable = omega (arith, h.fits) }
-  root_turn (atom w m k) h (turn.Atom a) z =
+  root_turn (atom w m k) h (turn.Atom a begins) z =
       let s = stands words 0 (holds_words h.holds) in
-      record { more = []; due = rw (z.2, s.firsts, s.seconds); next = refl; passable = omega (arith, h.fits) }
-  root_turn (list c) h (turn.Atom a) z = let s = stands words 0 (holds_words h.holds) in absurd (z.1 s.kinds)
+      record { more = []; due = rw (z.2, z.3, s.firsts, s.seconds); next = refl; passable = omega (arith, h.fits) }
+  root_turn (list c) h (turn.Atom a begins) z = let s = stands words 0 (holds_words h.holds) in absurd (z.1 s.kinds)
 
   -- ---- inside it
 
@@ -117,18 +117,18 @@ module _ (words text : List ℕ) (t : ℕ) where
           next = inside d (c ∷ o) s.next refl refl;
           passable = omega (arith, w.rest.fit);
         }
-    inside_turn empty o w (turn.Atom a) z = absurd (z.0 (omega (arith, ends, w.rest.stop)))
-    inside_turn (atom g m k then c) o w (turn.Atom a) z =
+    inside_turn empty o w (turn.Atom a begins) z = absurd (z.0 (omega (arith, ends, w.rest.stop)))
+    inside_turn (atom g m k then c) o w (turn.Atom a begins) z =
         let s = walk_atom words g m k c o w in
         let bounds = walk_within words (atom g m k then c) o w in
         let later : eqb p.i 0 ≡ false = ne_eqb p.i 0 (λ (e : p.i ≡ 0). omega (arith, bounds.0)) in
         record {
           more = pending text t t c o;
-          due = pending_atom text (cond p.begins largest t) t g m k c o ∙ rw (z.2, s.places, s.lengths);
+          due = pending_atom text (cond p.begins largest t) t g m k c o ∙ rw (z.2, z.3, s.places, s.lengths);
           next = rw later (inside c o s.next ends refl);
           passable = omega (arith, w.rest.fit);
         }
-    inside_turn (list d then c) o w (turn.Atom a) z = absurd (z.1 (walk_list words d c o w).kinds)
+    inside_turn (list d then c) o w (turn.Atom a begins) z = absurd (z.1 (walk_list words d c o w).kinds)
 
   -- each turn is made
   pub turned : {p : Place} {rest : List Call} (x : Turn) → At words text t p rest → IsTurn text words p x → Turned words text t p rest x

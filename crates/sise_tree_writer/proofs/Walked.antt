@@ -26,7 +26,7 @@ use Rattle.sise_tree_writer.specs.Walking.{IsTurn, NodeIn, Passable, GoodTurn, s
 use Rattle.sise_tree_writer.specs.declared.walk.Place.{Place}
 use Rattle.sise_tree_writer.specs.declared.walk.Turn.{Turn}
 use Rattle.sise_tree_writer.specs.declared.walk.Turn.TheVariants as turn
-use Rattle.sise_tree_writer.proofs.Atoms.{node_there, atom_in_text, atom_good}
+use Rattle.sise_tree_writer.proofs.Atoms.{node_there, atom_good}
 use Rattle.sise_tree_writer.proofs.CallLaws.{fits_first, fits_stop, accepted_lists, closed_list, written_if, Same, same_start, same_on}
 use Rattle.sise_tree_writer.proofs.Starting.{tree_starts}
 use Rattle.sise_tree_writer.proofs.Turns.{At, root, AtDue, due_within, Turned, turned}
@@ -84,11 +84,8 @@ module _ {s : Style} {text words : List ℕ} {t : ℕ} {writes : Bool} {room : �
     at_place : At words text t p h.rest
     at_place = rw is at h.at
 
-    pub place_in : NodeIn text words p
-    place_in = record {
-      there = λ f. node_there text words h.checked.holds p.i (due_within words text t at_place f);
-      in_text = λ f g. atom_in_text text words h.checked.holds p.i (due_within words text t at_place f) g;
-    }
+    pub place_in : NodeIn words p
+    place_in = λ f. node_there text words h.checked.holds p.i (due_within words text t at_place f)
 
     module _ (x : Turn) (its : IsTurn text words p x) where
       abbrev made : Turned words text t p h.rest x
@@ -103,10 +100,10 @@ module _ {s : Style} {text words : List ℕ} {t : ℕ} {writes : Bool} {room : �
           good : (x : Turn) → IsTurn text words p x → GoodTurn x
           good turn.End z = tt
           good turn.List z = tt
-          good (turn.Atom a) z = rw z.2 (atom_good text words h.checked p.i (due_within words text t at_place z.0) z.1)
+          good (turn.Atom a begins) z = rw z.2 (atom_good text words h.checked p.i (due_within words text t at_place z.0) z.1)
 
       abbrev call : Call
-      call = turn_call x (cond p.begins largest t) t
+      call = turn_call x t
 
       -- refused, the calls do not fit
       pub turn_off : is_accepted (step s room w call).answer ≡ false → fits s room w₀ calls ≡ false
@@ -124,8 +121,8 @@ module _ {s : Style} {text words : List ℕ} {t : ℕ} {writes : Bool} {room : �
         unfolding left_list
         turn_less = rw is (less x its turn_passable does accepted)
           where
-            less : (x : Turn) → IsTurn text words p x → Passable words p x → v ≡ (step s room w (turn_call x (cond p.begins largest t) t)).serializer
-                → (step s room w (turn_call x (cond p.begins largest t) t)).answer ≡ writer.Answer.accepted at → turns_left words (passed words p x) v < 1 + 2 * (length words - p.i) + w.lists
+            less : (x : Turn) → IsTurn text words p x → Passable words p x → v ≡ (step s room w (turn_call x t)).serializer
+                → (step s room w (turn_call x t)).answer ≡ writer.Answer.accepted at → turns_left words (passed words p x) v < 1 + 2 * (length words - p.i) + w.lists
             less turn.End z k d e =
                 let lists : v.lists ≡ w.lists - 1 = ap (λ (x : Serializer). x.lists) d ∙ accepted_lists s room w h.sound end_list_call e in
                 let one : 0 < w.lists = closed_list s room w h.sound e in
@@ -133,8 +130,8 @@ module _ {s : Style} {text words : List ℕ} {t : ℕ} {writes : Bool} {room : �
             less turn.List z k d e =
                 let lists : v.lists ≡ w.lists + 1 = ap (λ (x : Serializer). x.lists) d ∙ accepted_lists s room w h.sound (begin_list_call t) e in
                 omega arith
-            less (turn.Atom a) z k d e =
-                let lists : v.lists ≡ w.lists = ap (λ (x : Serializer). x.lists) d ∙ accepted_lists s room w h.sound (put_atom_call a.now (cond p.begins largest t)) e in
+            less (turn.Atom a begins) z k d e =
+                let lists : v.lists ≡ w.lists = ap (λ (x : Serializer). x.lists) d ∙ accepted_lists s room w h.sound (put_atom_call a.now (cond begins largest t)) e in
                 split (eqb p.i 0) (λ y. rw y (omega arith)) (λ y. rw y (omega arith))
 
         module _ {now : List ℕ} (wrote : now ≡ written_if writes b w.position (step s room w call).bytes) where

@@ -4,9 +4,8 @@ use Rattle.std.specs.Prelude.{ℕ, Result, Ok, Err}
 use Rattle.sise_parser.specs.Refusals.{Refusal, refusal}
 use Rattle.sise_serializer.specs.declared.serializer.Wrote.{Wrote}
 use Rattle.sise_tree.specs.Answers.{Answer, answered, refused_with}
-use Rattle.sise_tree.specs.declared.tree.Held.{Held}
-use Rattle.sise_tree.specs.declared.tree.Held.TheVariants as held
-use Rattle.sise_tree.specs.declared.tree.Held.TheVariants.{Tree, NoAtom}
+use Rattle.sise_tree.specs.declared.tree.TableError.{TableError}
+use Rattle.sise_tree.specs.declared.tree.TableError.TheVariants as table
 use Rattle.sise_tree_writer.specs.declared.serialize.WriteTreeError.{WriteTreeError}
 use Rattle.sise_tree_writer.specs.declared.serialize.WriteTreeError.TheVariants.{TextTooLong, UnsoundRecord, NotATree, InvalidAtom, WritingFinished, NoRoom, SizeChanged}
 
@@ -33,8 +32,7 @@ abbrev pub put_as : Result ℕ WriteTreeError → Answer
 put_as (Ok o) = answered o
 put_as (Err e) = refused_with (error_number e)
 
--- the refusal of what a table holds that is no tree of atoms: 15 or 17
-abbrev pub refusal_of : Held → WriteTreeError
-refusal_of Tree = NotATree
-refusal_of NoAtom = InvalidAtom
-refusal_of held.NotATree = NotATree
+-- the refusal of a table that holds no tree of atoms: 15 or 17
+abbrev pub refusal_of : TableError → WriteTreeError
+refusal_of table.NotATree = NotATree
+refusal_of table.NoAtom = InvalidAtom

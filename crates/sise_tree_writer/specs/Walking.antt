@@ -6,7 +6,7 @@ use Rattle.std.proofs.Math.Option.{some}
 use Rattle.sise_parser.specs.Reader.{part_of}
 use Rattle.sise_serializer.specs.Serializer as writer
 use Rattle.sise_serializer.specs.Serializer.{Style, is_sound}
-use Rattle.sise_serializer.specs.Calls.{Call, put_atom_call, begin_list_call, end_list_call, step, run}
+use Rattle.sise_serializer.specs.Calls.{largest, Call, put_atom_call, begin_list_call, end_list_call, step, run}
 use Rattle.sise_serializer.specs.declared.serializer.Serializer.{Serializer}
 use Rattle.sise_tree.specs.Tree.{Node, kind, first, second, span}
 use Rattle.sise_tree.specs.Decision.{decide}
@@ -17,16 +17,16 @@ use Rattle.sise_tree_writer.specs.declared.walk.Turn.{Turn}
 use Rattle.sise_tree_writer.specs.declared.walk.Turn.TheVariants as turn
 use Rattle.sise_serializer.specs.declared.serializer.Placed.{Placed}
 
--- the turn x is due at the place p: the innermost list ends there, or the next node is a list, or it is an atom of those bytes
+-- the turn x is due at the place p: the innermost list ends there, or the next node is a list, or it is an atom of those bytes, which is a list's first child
+-- if that list has just begun
 abbrev pub IsTurn : List ℕ → List ℕ → Place → Turn → Type 0
 IsTurn text words p turn.End = p.i ≡ p.end
 IsTurn text words p turn.List = (p.i ≡ p.end → ⊥) × (kind words p.i ≡ 0)
-IsTurn text words p (turn.Atom a) = (p.i ≡ p.end → ⊥) × (kind words p.i ≡ 0 → ⊥) × (a.now ≡ part_of text (first words p.i) (second words p.i))
+IsTurn text words p (turn.Atom a begins) = (p.i ≡ p.end → ⊥) × (kind words p.i ≡ 0 → ⊥) × (a.now ≡ part_of text (first words p.i) (second words p.i)) × (begins ≡ p.begins)
 
--- a node that is due at the place p is in the table, and an atom's bytes lie in the text
-pub record NodeIn (text words : List ℕ) (p : Place) : Type 0 where
-  pub there : (p.i ≡ p.end → ⊥) → 4 * (p.i + 1) ≤ length words
-  pub in_text : (p.i ≡ p.end → ⊥) → (kind words p.i ≡ 0 → ⊥) → first words p.i + second words p.i ≤ length text
+-- a node that is due at the place p is in the table
+abbrev pub NodeIn : List ℕ → Place → Type 0
+NodeIn words p = (p.i ≡ p.end → ⊥) → 4 * (p.i + 1) ≤ length words
 
 -- the innermost list may be left: its words are in the table, and so are those of the list around it
 pub record Leavable (words : List ℕ) (p : Place) : Type 0 where
@@ -37,7 +37,7 @@ pub record Leavable (words : List ℕ) (p : Place) : Type 0 where
 abbrev pub Passable : List ℕ → Place → Turn → Type 0
 Passable words p turn.End = Leavable words p
 Passable words p turn.List = 4 * (p.i + 1) ≤ length words
-Passable words p (turn.Atom a) = 4 * (p.i + 1) ≤ length words
+Passable words p (turn.Atom a begins) = 4 * (p.i + 1) ≤ length words
 
 abbrev place : ℕ → ℕ → ℕ → Bool → Place
 place i list end begins = record { i = i; list = list; end = end; begins = begins }
@@ -58,19 +58,19 @@ left_list words p = cond (eqb p.list 0) None (Some (outside words p.i (p.list - 
 abbrev pub passed : List ℕ → Place → Turn → Option Place
 passed words p turn.End = left_list words p
 passed words p turn.List = Some (place (p.i + 1) p.i (p.i + span words p.i) true)
-passed words p (turn.Atom a) = cond (eqb p.i 0) None (Some (place (p.i + 1) p.list p.end false))
+passed words p (turn.Atom a begins) = cond (eqb p.i 0) None (Some (place (p.i + 1) p.list p.end false))
 
--- the call of a turn, an atom's at the threshold a and a list's at t
-abbrev pub turn_call : Turn → ℕ → ℕ → Call
-turn_call turn.End a t = end_list_call
-turn_call turn.List a t = begin_list_call t
-turn_call (turn.Atom x) a t = put_atom_call x.now a
+-- the call of a turn at the threshold t; "gives a list's first child, if an atom, the largest threshold"
+abbrev pub turn_call : Turn → ℕ → Call
+turn_call turn.End t = end_list_call
+turn_call turn.List t = begin_list_call t
+turn_call (turn.Atom a begins) t = put_atom_call a.now (cond begins largest t)
 
 -- an atom of a turn was checked
 abbrev pub GoodTurn : Turn → Type 0
 GoodTurn turn.End = ⊤
 GoodTurn turn.List = ⊤
-GoodTurn (turn.Atom a) = is_atom a.now ≡ true
+GoodTurn (turn.Atom a begins) = is_atom a.now ≡ true
 
 -- the record after calls that all fit
 unfoldable pub after : Style → ℕ → Serializer → List Call → Serializer

@@ -1,6 +1,6 @@
-// The tree that a table holds, written as the writer's calls would write it: in one call, or measured first and then committed. Each public call is a frame over
-// `Writing`, as those of whole.rt are. Its arguments stand in the order of the crate's calls: a struct of them would be made at each call and read at once.
-ghost use Rattle.std.specs.Prelude.{◌≡◌};
+// The tree that a table holds, written as the writer's calls would write it: in one call, or measured first and then committed. Each public call makes a
+// `Writing` and calls its method, as those of whole.rt do. Its arguments stand in the order of the crate's calls: a struct of them would be made for each call
+// and read at once.
 ghost use Rattle.sise_serializer.specs.Serializer.{style_of};
 ghost use Rattle.sise_tree_writer.specs.Answers.{write_refusal};
 ghost use Rattle.sise_tree_writer.specs.SerializeTree.{serialize_tree, DoesWrite};
@@ -8,7 +8,7 @@ ghost use Rattle.sise_tree_writer.specs.Sizes.{MeasuresTree, CommitsTree};
 
 use crate::size::TreeSize;
 use crate::writing::Writing;
-use sise_parser::Refusal;
+use sise_parser::{Refusal, RefusalNumbers};
 use sise_serializer::{Serializer, SerializerStyle, Wrote};
 use sise_tree::TreeTable;
 
@@ -30,16 +30,8 @@ pub type TreeWrote = Wrote<WriteTreeError>;
 impl Refusal for WriteTreeError {
     ghost meaning = { write_refusal };
 
-    fn number(self) -> u32 {
-        self as u32
-    }
-
-    fn place(self) -> usize {
-        0
-    }
-
-    fn code(self) -> u32 {
-        0
+    fn numbers(self) -> RefusalNumbers {
+        RefusalNumbers::unplaced(self as u32)
     }
 }
 

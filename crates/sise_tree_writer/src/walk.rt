@@ -1,18 +1,19 @@
 // Steps of a walk over a table that holds a tree. A walk keeps the next node and the innermost open list, whose span says where it ends and whose third
 // word leads back to the list around it. At each turn it closes that list, or passes a node.
 ghost use Rattle.std.specs.Prelude.{◌≡◌, ◌+◌, ◌*◌, ◌≤◌, length};
-ghost use Rattle.sise_parser.specs.Reader.{part_of};
 ghost use Rattle.sise_tree.specs.NodeWords.{Words};
 ghost use Rattle.sise_tree_writer.specs.Walking.{NodeIn, IsTurn, Leavable, Passable, started, left_list, passed};
 
+use sise_parser::atom_bytes;
 use sise_tree::{NodeWords, TreeTable, wide};
 
-// What is due: the innermost list ends, a list begins, or an atom comes. Three cases, and no Option of one.
+// What is due: the innermost list ends, a list begins, or an atom comes, with its bytes and whether it is its list's first child. Three cases, and no Option
+// of one.
 #[derive(Clone, Copy)]
 pub(crate) enum Turn<'a> {
     End,
     List,
-    Atom(&'a [u8]),
+    Atom { bytes: &'a [u8], begins: bool },
 }
 
 // Where a walk is: the next node, the innermost open list and its end, and whether that list has just begun.
@@ -22,14 +23,6 @@ pub(crate) struct Place {
     pub(crate) list: usize,
     pub(crate) end: usize,
     pub(crate) begins: bool,
-}
-
-// The `len` bytes from `place` on, which lie in the text.
-fn part(text: &[u8], place: usize, len: usize) -> &[u8]
-    requires { place + len ≤ length text.now }
-    ensures { result.now ≡ part_of text.now place len }
-{
-    &text[place..place + len]
 }
 
 // Node `i`'s words, which the table has.
@@ -58,7 +51,7 @@ impl Place {
     // The turn that is due.
     #[inline(always)]
     pub(crate) fn turn<'a>(self, tree: TreeTable<'a>) -> Turn<'a>
-        requires { NodeIn tree.text.now tree.table.now self }
+        requires { NodeIn tree.table.now self }
         ensures { IsTurn tree.entry.text.now tree.entry.table.now self result }
     {
         if self.i == self.end {
@@ -68,7 +61,10 @@ impl Place {
         if node.kind == 0 {
             return Turn::List;
         }
-        Turn::Atom(part(tree.text, wide(node.first), wide(node.second)))
+        Turn::Atom {
+            bytes: atom_bytes(tree.text, wide(node.first), wide(node.second)),
+            begins: self.begins,
+        }
     }
 
     // Goes on past a turn: out of the innermost list, into the list that begins, or past an atom. The end of the first node ends the walk.
@@ -85,7 +81,7 @@ impl Place {
                 end: self.i + wide(node(tree, self.i).span),
                 begins: true,
             }),
-            Turn::Atom(_) => {
+            Turn::Atom { .. } => {
                 if self.i == 0 {
                     return None;
                 }

@@ -1,5 +1,4 @@
 // Whole texts, written from a lent table, or measured and then written: the tree, and a finish.
-ghost use Rattle.std.specs.Prelude.{◌≡◌};
 ghost use Rattle.sise_serializer.specs.Serializer.{style_of};
 ghost use Rattle.sise_tree_writer.specs.SerializeTree.{DoesWrite};
 ghost use Rattle.sise_tree_writer.specs.Writing.{write_text};

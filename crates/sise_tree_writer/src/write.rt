@@ -1,12 +1,12 @@
-// The bytes of a tree whose calls are known to fit. No plan is asked for: it would look for room once more. Each step asks for room for a piece of its own (`Room`),
-// which is no fact of a value that a type could hold.
+// The bytes of a tree whose calls are known to fit. No plan is asked for: it would look for room once more, and that wrote at 1.21 to 1.25 of the crate's speed
+// where this writes at 1.32 to 1.40 (docs/DECISIONS.md, "Measured, then written"). Each step asks for room for a piece of its own (`Room`), which is no fact of
+// a value that a type could hold. Nor is there a struct of `w` and `buf`: each step hands back another record, for which the struct would be made anew.
 ghost use Rattle.std.specs.Prelude.{◌≡◌, true, ◌<◌};
 ghost use Rattle.sise_serializer.specs.Serializer.{style_of, new_line, inner_as, close_as};
 ghost use Rattle.sise_serializer.specs.Calls.{end_list_call};
 ghost use Rattle.sise_serializer.specs.Parts.{first_item, in_line, gap_bytes};
 ghost use Rattle.sise_tree_writer.specs.Planning.{Room, WritesPiece, CanPut, Puts, CanMake, Makes};
 ghost use Rattle.sise_tree_writer.specs.Walking.{GoodTurn, turn_call, Writable, WritesNodes};
-ghost use Rattle.sise_tree_writer.specs.Writing.{line_of};
 
 use crate::walk::{Place, Turn};
 use crate::writing::Writing;
@@ -14,7 +14,7 @@ use sise_serializer::{
     Phase, Serializer, SerializerStyle, SoundSerializer, paste, paste_line, write_gap,
 };
 
-// The first item of a text.
+// The first item of a text. It is `token` and `is_list` here and below, as in the definition and behind_first, and no Turn: a Turn may be an end.
 #[inline(always)]
 fn write_first(w: SoundSerializer, buf: &mut [u8], token: &[u8], is_list: bool) -> Serializer
     requires { Room w.serializer (first_item w.serializer token.now is_list) buf.old }
@@ -119,39 +119,34 @@ fn write_turn(
     w: SoundSerializer,
     buf: &mut [u8],
     turn: Turn<'_>,
-    begins: bool,
 ) -> Serializer
     requires good { GoodTurn turn }
-    requires accepted { CanMake (turn_call turn (line_of writing begins) writing.break_line_at) (style_of writing.style) w.serializer buf.old }
-    ensures { Makes (turn_call turn.entry (line_of writing.entry begins) writing.entry.break_line_at) (style_of writing.entry.style) w.serializer buf.old result buf.new }
+    requires accepted { CanMake (turn_call turn writing.break_line_at) (style_of writing.style) w.serializer buf.old }
+    ensures { Makes (turn_call turn.entry writing.entry.break_line_at) (style_of writing.entry.style) w.serializer buf.old result buf.new }
 {
     let style = writing.style;
     match turn {
         Turn::End => write_end(w, style, buf),
         Turn::List => write_item(w, style, buf, b"(", true, writing.break_line_at),
-        Turn::Atom(atom) => write_item(w, style, buf, atom, false, writing.threshold(begins)),
+        Turn::Atom { bytes, begins } => {
+            write_item(w, style, buf, bytes, false, writing.threshold(begins))
+        }
     }
 }
 
-// Writes the tree's calls, and answers where they end. A walk of its own beside measure_nodes: one with an argument that says whether it writes was too slow
-// (docs/DECISIONS.md), and a trait with two instances would be longer than the loop that both have. The record is made anew as there.
+// Writes the tree's calls, and answers where they end. A walk of its own beside measure_nodes: one walk with an argument that says whether it writes was built,
+// and wrote at 0.74 to 0.79 of the speed of two (docs/DECISIONS.md, "Measured, then written").
 pub(crate) fn write_nodes(writing: Writing<'_>, serializer: Serializer, buf: &mut [u8]) -> usize
     requires { Writable (style_of writing.style) buf.old serializer writing.tree.text.now writing.tree.table.now writing.break_line_at }
     ensures { WritesNodes (style_of writing.entry.style) buf.old serializer writing.entry.tree.text.now writing.entry.tree.table.now writing.entry.break_line_at result buf.new }
 {
-    let mut w = Serializer {
-        position: serializer.position,
-        ..serializer
-    };
+    let mut w = serializer.by_fields();
     let mut due = Some(Place::start(writing.tree));
     while let Some(place) = due {
         let turn = place.turn(writing.tree);
         let sound = SoundSerializer { serializer: w };
-        let next = write_turn(writing, sound, buf, turn, place.begins);
-        w = Serializer {
-            position: next.position,
-            ..next
-        };
+        let next = write_turn(writing, sound, buf, turn);
+        w = next.by_fields();
         due = place.pass(writing.tree, turn);
     }
     w.position

@@ -12,9 +12,10 @@ use crate::serialize::WriteTreeError;
 use crate::size::{TreeSize, is_size, size_between};
 use crate::write::write_nodes;
 use sise_serializer::{Phase, Placed, Serializer, SerializerStyle, SoundSerializer, paste};
-use sise_tree::{Held, LONGEST, TreeTable};
+use sise_tree::{LONGEST, TableError, TreeTable};
 
-// What is written: the tree that a table holds, in a style and at a threshold, and a finish behind it, with a line break or without, or none.
+// What is written: the tree that a table holds, in a style and at a threshold, and a finish behind it, with a line break or without, or none. `finish` is None,
+// or Some of a public call's `final_break`: an enum of three would be made of that bool and turned back into it for plan_finish and final_break.
 #[derive(Clone, Copy)]
 pub(crate) struct Writing<'a> {
     pub(crate) style: SerializerStyle<'a>,
@@ -27,19 +28,18 @@ pub(crate) struct Writing<'a> {
 fn is_over(phase: Phase) -> bool
     ensures { result ≡ is_over phase }
 {
-    match phase {
-        Phase::Beginning | Phase::Writing => false,
-        Phase::Finished | Phase::Done => true,
-    }
+    matches!(phase, Phase::Finished | Phase::Done)
 }
 
-// The refusal of what a table holds that is no tree of atoms.
-fn refusal_of(held: Held) -> WriteTreeError
-    ensures { result ≡ refusal_of held }
-{
-    match held {
-        Held::NoAtom => WriteTreeError::InvalidAtom,
-        Held::Tree | Held::NotATree => WriteTreeError::NotATree,
+// A table that holds no tree of atoms is refused for the same reason.
+impl From<TableError> for WriteTreeError {
+    ghost from_gives = { λ error e. e ≡ refusal_of error };
+
+    fn from(error: TableError) -> WriteTreeError {
+        match error {
+            TableError::NotATree => WriteTreeError::NotATree,
+            TableError::NoAtom => WriteTreeError::InvalidAtom,
+        }
     }
 }
 
@@ -78,10 +78,7 @@ impl<'a> Writing<'a> {
         if !serializer.is_sound() {
             return Err(WriteTreeError::UnsoundRecord);
         }
-        let held = self.tree.holds_tree();
-        let Held::Tree = held else {
-            return Err(refusal_of(held));
-        };
+        self.tree.holds_tree()?;
         if is_over(serializer.phase) {
             return Err(WriteTreeError::WritingFinished);
         }

@@ -25,7 +25,8 @@ fn free_bits(octet: u8, mark: u8) -> u32
     (octet - mark) as u32
 }
 
-// The octet at a place of the text; past its end 0, which is no second and no later octet of a character.
+// The octet at a place of the text; past its end 0, which is no second and no later octet of a character. So the arms are over octets and no Option of one:
+// each would be a `Some(0x80..=0xBF)`, and no shorter.
 fn octet_at(text: &[u8], at: usize) -> u8
     ensures { OctetAt text.now at result }
 {

@@ -26,27 +26,26 @@ pub fn kind_number(kind: Option<AtomKind>) -> u32
 fn is_mark(chr: u8) -> bool
     ensures { result ≡ one_of marks chr }
 {
-    match chr {
-        b'!'
-        | b'#'
-        | b'$'
-        | b'%'
-        | b'&'
-        | b'*'
-        | b'+'
-        | b'-'
-        | b'.'
-        | b'/'
-        | b':'
-        | b'<'
-        | b'='
-        | b'>'
-        | b'?'
-        | b'@'
-        | b'_'
-        | b'~' => true,
-        _ => false,
-    }
+    matches!(
+        chr,
+        b'!' | b'#'
+            | b'$'
+            | b'%'
+            | b'&'
+            | b'*'
+            | b'+'
+            | b'-'
+            | b'.'
+            | b'/'
+            | b':'
+            | b'<'
+            | b'='
+            | b'>'
+            | b'?'
+            | b'@'
+            | b'_'
+            | b'~'
+    )
 }
 
 // Whether `chr` is an atom character outside a string. Small letters come first and marks last: the compiler tests the values of one `match` from below.
@@ -105,14 +104,11 @@ pub fn is_atom_byte(byte: u8) -> bool
 fn is_escaped_chr(chr: u8) -> bool
     ensures { result ≡ is_escaped_chr chr }
 {
-    match chr {
-        b'"' | b'\\' => true,
-        _ => is_atom_string_chr(chr),
-    }
+    matches!(chr, b'"' | b'\\') || is_atom_string_chr(chr)
 }
 
-// The place behind the closing quote of a string whose inside begins at `from`, if one is there. It is a loop of its own, and so short, since a string may be
-// long. It counts places by hand: an escape passes two bytes, which a `for` over the bytes would have to keep in a flag.
+// The place behind the closing quote of a string whose inside begins at `from`, if one is there.
+// It counts places by hand: an escape passes two bytes. An iterator with a second `next()` there would count them by hand too, since the place is the answer.
 fn string_end(atom: &[u8], from: usize) -> Option<usize>
     ensures { MatchOption result (inside (drop from atom.now) ≡ false) (StringTo atom.now from) }
 {
@@ -135,7 +131,8 @@ fn string_end(atom: &[u8], from: usize) -> Option<usize>
     None
 }
 
-// The end of the atom characters that `atom` begins with: most atoms have no others.
+// The end of the atom characters that `atom` begins with: most atoms have no others. A `for` and no `position`: the two clauses are read
+// off its turns, and from what `position` promises a lemma would have to take them.
 fn plain_end(atom: &[u8]) -> usize
     ensures run { PlainTo atom.now result }
     ensures stop { StopsAt atom.now result }

@@ -1,6 +1,6 @@
 -- `sise_parser::is_blank` meets its contract: the four bytes are those of the three classes that are blanks.
 use mathlib.Core.Path.{◌≡◌, refl, sym, ap, ◌∙◌}
-use mathlib.Core.Bool.{false}
+use mathlib.Core.Bool.{true, false}
 use mathlib.Core.Logic.{⊎_elim}
 use Prim.Native.Nat.{ℕ}
 use native.Mathlib.Omega.{arith}
@@ -8,6 +8,7 @@ use borrow.Author.Tests.{ne_eqb, eqb-false}
 use Rattle.sise_util.specs.Chars.{one_of}
 use Rattle.sise_util.specs.Classes.{Class, space, quote, tab, atom_chr, line_end, backslash, other, semicolon, left, right, printable, class_of, class_number}
 use Rattle.sise_util.proofs.ClassLaws.{space_number, tab_number, line_end_number}
+use Rattle.sise_util.proofs.Ranges.{valued}
 use Rattle.sise_parser.specs.Plain.{is_blank}
 use Rattle.sise_parser.proofs.lexer.is_blank.Goals as goal
 
@@ -32,9 +33,11 @@ pub returns-in-32 : goal.returns-in-32
 unfolding class_of
 returns-in-32 c = ⊎_elim (λ e. rw e) (λ e. rw e) c.in-32.is
 
-pub returns-in-9 : goal.returns-in-9
-unfolding class_of
-returns-in-9 c = ⊎_elim (λ e. rw e) (λ e. rw e) c.in-9.is
+pub returns-in-32-2 : goal.returns-in-32-2
+returns-in-32-2 c = valued (λ (b : ℕ). is_blank (class_of b)) true 9 2 (unfold class_of in tt) (omega arith) (omega arith)
 
 pub returns-in_default : goal.returns-in_default
 returns-in_default c = other_byte c.args.byte (grind arith) (grind arith) (grind arith) (grind arith)
+
+pub returns-in_default-2 : goal.returns-in_default-2
+returns-in_default-2 c = other_byte c.args.byte (grind arith) (grind arith) (grind arith) (grind arith)

@@ -10,7 +10,7 @@ pub start-requires : goal.start-requires
 start-requires c = root_there _ _ c.requires.checked.holds
 
 pub loop-due-init : goal.loop-due-init
-loop-due-init c = rw c.start.ensures (walking_start _ _ _ _ _ _ _ _ c.requires (λ y. absurd (false≢true y)) (λ y n d. absurd (false≢true y)))
+loop-due-init c = rw (c.start.ensures, c.by_fields-w.ensures) (walking_start _ _ _ _ _ _ _ _ c.requires (λ y. absurd (false≢true y)) (λ y n d. absurd (false≢true y)))
 
 pub turn-turn-requires : goal.turn-turn-requires
 turn-turn-requires c = place_in c.loop-due.invariant c.in-Some.is
@@ -27,12 +27,12 @@ pass-due-requires c = turn_passable c.loop-due.invariant c.in-Some.is _ c.turn-t
 pub loop-due-smaller : goal.loop-due-smaller
 loop-due-smaller c =
     let (o, e) = accepted_as _ c.in_ok-next.ensures.1 in
-    rw c.pass-due.ensures (turn_less c.loop-due.invariant c.in-Some.is _ c.turn-turn.ensures c.in_ok-next.ensures.0 e)
+    rw (c.pass-due.ensures, c.by_fields-w-in-Some.ensures) (turn_less c.loop-due.invariant c.in-Some.is _ c.turn-turn.ensures c.in_ok-next.ensures.0 e)
 
 pub loop-due-preserved : goal.loop-due-preserved
 loop-due-preserved c =
     let (o, e) = accepted_as _ c.in_ok-next.ensures.1 in
-    rw c.pass-due.ensures (turn_on c.loop-due.invariant c.in-Some.is _ c.turn-turn.ensures c.in_ok-next.ensures.0 e refl)
+    rw (c.pass-due.ensures, c.by_fields-w-in-Some.ensures) (turn_on c.loop-due.invariant c.in-Some.is _ c.turn-turn.ensures c.in_ok-next.ensures.0 e refl)
 
 pub returns : goal.returns
 returns c = λ n d. walk_all c.loop-due.invariant c.in_default.is c.first_offset-offset.ensures d

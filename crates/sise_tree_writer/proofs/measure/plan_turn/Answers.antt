@@ -15,5 +15,5 @@ pub returns-in-Atom : goal.returns-in-Atom
 returns-in-Atom c =
     let a = c.args in
     let good = rw c.in-Atom.is at c.requires in
-    rw (c.in-Atom.is, c.behind-in-Atom.ensures, ← c.threshold-line.ensures, put_item _ _ a.w.serializer a.w.sound c.in-Atom.atom.now c.threshold-line.result good)
-    (planned_record _ _ _ _ _ _ (c.plan_item-in-Atom.ensures c.in-Atom.atom.now refl))
+    rw (c.in-Atom.is, c.behind-in-Atom.ensures, ← c.threshold-line.ensures, put_item _ _ a.w.serializer a.w.sound c.in-Atom.bytes.now c.threshold-line.result good)
+    (planned_record _ _ _ _ _ _ (c.plan_item-in-Atom.ensures c.in-Atom.bytes.now refl))

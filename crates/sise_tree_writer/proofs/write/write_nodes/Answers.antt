@@ -8,7 +8,7 @@ pub start-requires : goal.start-requires
 start-requires c = root_there _ _ c.requires.walkable.checked.holds
 
 pub loop-due-init : goal.loop-due-init
-loop-due-init c = rw c.start.ensures (walking_start _ _ _ _ _ _ _ _ c.requires.walkable (λ y. refl) (λ y n d. c.requires.fit n d))
+loop-due-init c = rw (c.start.ensures, c.by_fields-w.ensures) (walking_start _ _ _ _ _ _ _ _ c.requires.walkable (λ y. refl) (λ y n d. c.requires.fit n d))
 
 pub turn-turn-requires : goal.turn-turn-requires
 turn-turn-requires c = place_in c.loop-due.invariant c.in-Some.is
@@ -22,10 +22,10 @@ pub pass-due-requires : goal.pass-due-requires
 pass-due-requires c = turn_passable c.loop-due.invariant c.in-Some.is _ c.turn-turn.ensures
 
 pub loop-due-smaller : goal.loop-due-smaller
-loop-due-smaller c = rw c.pass-due.ensures (made_less c.loop-due.invariant c.in-Some.is _ c.turn-turn.ensures refl c.write_turn-next.ensures)
+loop-due-smaller c = rw (c.pass-due.ensures, c.by_fields-w-in-Some.ensures) (made_less c.loop-due.invariant c.in-Some.is _ c.turn-turn.ensures refl c.write_turn-next.ensures)
 
 pub loop-due-preserved : goal.loop-due-preserved
-loop-due-preserved c = rw c.pass-due.ensures (made_on c.loop-due.invariant c.in-Some.is _ c.turn-turn.ensures refl c.write_turn-next.ensures)
+loop-due-preserved c = rw (c.pass-due.ensures, c.by_fields-w-in-Some.ensures) (made_on c.loop-due.invariant c.in-Some.is _ c.turn-turn.ensures refl c.write_turn-next.ensures)
 
 pub shape_of-buf : goal.shape_of-buf
 shape_of-buf c = c.loop-due.invariant.long

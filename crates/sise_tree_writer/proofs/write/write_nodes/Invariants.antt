@@ -7,7 +7,7 @@ use Rattle.sise_tree_writer.proofs.write.write_nodes.Given as goal
 
 abbrev pub invariant-loop-due : goal.invariant-loop-due
 invariant-loop-due l =
-    Walking (style_of l.writing.style) l.writing.tree.text.now l.writing.tree.table.now l.writing.break_line_at true (length l.initial.buf) l.initial.buf l.initial.w l.buf l.w l.due
+    Walking (style_of l.writing.style) l.writing.tree.text.now l.writing.tree.table.now l.writing.break_line_at true (length l.initial.buf) l.initial.buf l.fn.serializer l.buf l.w l.due
 
 abbrev pub decreases-loop-due : goal.decreases-loop-due
 decreases-loop-due l = turns_left l.writing.tree.table.now l.due l.w

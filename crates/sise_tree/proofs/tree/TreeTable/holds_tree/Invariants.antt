@@ -4,4 +4,4 @@ use Rattle.sise_tree.proofs.HeldLaws.{Passed}
 use Rattle.sise_tree.proofs.tree.TreeTable.holds_tree.Given as goal
 
 abbrev pub invariant-loop-i : goal.invariant-loop-i
-invariant-loop-i l = Passed l.self.text.now l.self.table.now l.i l.all
+invariant-loop-i l = Passed l.self.text.now l.self.table.now l.i l.held

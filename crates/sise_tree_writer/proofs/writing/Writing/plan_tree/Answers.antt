@@ -1,6 +1,7 @@
 -- Each test of the code is the next test of the definition, whatever the buffer; after all of them the tree is measured.
 use mathlib.Core.Path.{refl, sym, ap, ◌∙◌}
 use mathlib.Core.Option.{some-injective}
+use Rattle.std.proofs.lemmas.Result.{err_from_is_err_and}
 use Rattle.sise_serializer.specs.Serializer.{style_of}
 use Rattle.sise_tree_writer.specs.SerializeTree.{tree_calls}
 use Rattle.sise_tree_writer.specs.declared.serialize.WriteTreeError.TheVariants.{TextTooLong, UnsoundRecord, WritingFinished}
@@ -15,16 +16,21 @@ returns-then-self-gt-LONGEST c = λ b long. let a = c.args in rw (tree_long (sty
 pub returns-then-not-is_sound : goal.returns-then-not-is_sound
 returns-then-not-is_sound c = λ b long. let a = c.args in rw (tree_unsound (style_of a.self.style) b a.serializer a.self.tree.text.now a.self.tree.table.now (tree_calls a.self.tree.text.now a.self.break_line_at) c.if-self-gt-LONGEST.false (sym c.is_sound.ensures ∙ c.if-not-is_sound.true)) (refused_measures _ _ UnsoundRecord refl)
 
-pub returns-in_default : goal.returns-in_default
-returns-in_default c = λ b long. let a = c.args in rw c.refusal_of.ensures (unheld_measures (style_of a.self.style) b a.serializer a.self.tree.text.now a.self.tree.table.now (tree_calls a.self.tree.text.now a.self.break_line_at) c.if-self-gt-LONGEST.false (sym c.is_sound.ensures ∙ c.if-not-is_sound.false) c.holds_tree-held.result c.holds_tree-held.ensures c.in_default.not-Tree)
+pub returns-in_err-holds_tree : goal.returns-in_err-holds_tree
+returns-in_err-holds_tree c = λ b long.
+    let a = c.args in
+    let p = err_from_is_err_and c.from_residual.result c.from_residual.ensures.1 in
+    rw (p.1, p.2)
+    (unheld_measures (style_of a.self.style) b a.serializer a.self.tree.text.now a.self.tree.table.now (tree_calls a.self.tree.text.now a.self.break_line_at)
+    c.if-self-gt-LONGEST.false (sym c.is_sound.ensures ∙ c.if-not-is_sound.false) _ (sym c.in_err-holds_tree.was ∙ c.holds_tree.ensures))
 
 pub returns-then-is_over : goal.returns-then-is_over
-returns-then-is_over c = λ b long. let a = c.args in let (n, d, k) = tree_held a.self.tree.text.now _ c.holds_tree-held.ensures c.in-Tree.is in rw (tree_over (style_of a.self.style) b a.serializer a.self.tree.text.now a.self.tree.table.now (tree_calls a.self.tree.text.now a.self.break_line_at) c.if-self-gt-LONGEST.false (sym c.is_sound.ensures ∙ c.if-not-is_sound.false) d k (sym c.is_over.ensures ∙ c.if-is_over.true)) (refused_measures _ _ WritingFinished refl)
+returns-then-is_over c = λ b long. let a = c.args in let (n, d, k) = tree_held a.self.tree.text.now _ c.holds_tree.ensures c.in_ok-holds_tree.was in rw (tree_over (style_of a.self.style) b a.serializer a.self.tree.text.now a.self.tree.table.now (tree_calls a.self.tree.text.now a.self.break_line_at) c.if-self-gt-LONGEST.false (sym c.is_sound.ensures ∙ c.if-not-is_sound.false) d k (sym c.is_over.ensures ∙ c.if-is_over.true)) (refused_measures _ _ WritingFinished refl)
 
 pub measure_nodes-requires : goal.measure_nodes-requires
 unfolding is_some
-measure_nodes-requires c = let a = c.args in let (n, d, k) = tree_held a.self.tree.text.now _ c.holds_tree-held.ensures c.in-Tree.is in record { sound = sym c.is_sound.ensures ∙ c.if-not-is_sound.false; checked = record { holds = ap is_some d; atoms = λ m e. rw (some-injective _ _ (sym d ∙ e)) at k } }
+measure_nodes-requires c = let a = c.args in let (n, d, k) = tree_held a.self.tree.text.now _ c.holds_tree.ensures c.in_ok-holds_tree.was in record { sound = sym c.is_sound.ensures ∙ c.if-not-is_sound.false; checked = record { holds = ap is_some d; atoms = λ m e. rw (some-injective _ _ (sym d ∙ e)) at k } }
 
 pub returns : goal.returns
 unfolding is_some
-returns c = λ b long. let a = c.args in let (n, d, k) = tree_held a.self.tree.text.now _ c.holds_tree-held.ensures c.in-Tree.is in rw (c.ok_or.ensures.value, tree_in (style_of a.self.style) b a.serializer a.self.tree.text.now a.self.tree.table.now (tree_calls a.self.tree.text.now a.self.break_line_at) c.if-self-gt-LONGEST.false (sym c.is_sound.ensures ∙ c.if-not-is_sound.false)) (node_checked _ _ _ _ _ _ (record { holds = ap is_some d; atoms = λ m e. rw (some-injective _ _ (sym d ∙ e)) at k }) (sym c.is_over.ensures ∙ c.if-is_over.false) (λ n d. found b long (c.measure_nodes.ensures n d)))
+returns c = λ b long. let a = c.args in let (n, d, k) = tree_held a.self.tree.text.now _ c.holds_tree.ensures c.in_ok-holds_tree.was in rw (c.ok_or.ensures.value, tree_in (style_of a.self.style) b a.serializer a.self.tree.text.now a.self.tree.table.now (tree_calls a.self.tree.text.now a.self.break_line_at) c.if-self-gt-LONGEST.false (sym c.is_sound.ensures ∙ c.if-not-is_sound.false)) (node_checked _ _ _ _ _ _ (record { holds = ap is_some d; atoms = λ m e. rw (some-injective _ _ (sym d ∙ e)) at k }) (sym c.is_over.ensures ∙ c.if-is_over.false) (λ n d. found b long (c.measure_nodes.ensures n d)))
