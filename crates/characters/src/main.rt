@@ -2,19 +2,23 @@
 // for each case, a line of standard input, what check_atom says, what check_atom_prefix says of each length from 0 to one past the case, and the
 // character at each place from 0 to one past the case, as its code point, or `-` where none is well formed, and its number of bytes.
 //
-// A case is the line's bytes, or, after an `x`, bytes in hexadecimal, two digits each. crates/characters/stdout was made from the same cases by the
-// Rust program compare/, which runs the crate's util.rs and the standard library's UTF-8 decoder (`compare/run characters`).
+// A case is the line's bytes, or, after an `x`, bytes in hexadecimal, two digits each. Of standard input 4,096 bytes are read at most, of a hexadecimal case
+// 64. crates/characters/stdout was made from the same cases by the Rust program compare/, which runs the crate's util.rs and the standard library's UTF-8
+// decoder (`compare/run characters`).
 #![tactic(auto)]
 
 ghost use Rattle.std.specs.Prelude.{◌<◌};
 
 use lines::Printer;
 use sise_util::classes::class_of;
-use sise_util::{AtomKind, Character, IllFormed, character_at, check_atom, check_atom_prefix};
+use sise_util::{
+    AtomKind, Character, IllFormed, character_at, check_atom, check_atom_prefix, is_atom_chr,
+    is_atom_string_chr, kind_number,
+};
 
 // 1, 2 or 3, and 0 for no atom.
 fn put_kind(out: &mut Printer, kind: Option<AtomKind>) {
-    out.put_decimal(sise_util::kind_number(kind) as u64);
+    out.put_decimal(kind_number(kind) as u64);
 }
 
 fn put_length(out: &mut Printer, len: usize) {
@@ -40,8 +44,8 @@ fn put_character(out: &mut Printer, found: Result<Character, IllFormed>) {
 fn put_byte_line(out: &mut Printer, chr: u8) {
     out.put_decimal(chr as u64);
     out.put_number(class_of(chr) as usize);
-    out.put_number(sise_util::is_atom_chr(chr) as usize);
-    out.put_decimal(sise_util::is_atom_string_chr(chr) as u64);
+    out.put_number(is_atom_chr(chr) as usize);
+    out.put_decimal(is_atom_string_chr(chr) as u64);
     out.put_byte(b'\n');
 }
 
@@ -68,15 +72,11 @@ fn put_case_line(out: &mut Printer, case: &[u8]) {
     out.put_byte(b'\n');
 }
 
-// A digit's value, and 0 for other bytes. The library's `to_digit` reads small letters as well, which stand for 0 here; with a test for them it is no plainer.
+// A digit's value, and 0 for other bytes.
 fn digit_value(digit: u8) -> u8
     ensures { result < 16 }
 {
-    match digit {
-        b'0'..=b'9' => digit - b'0',
-        b'A'..=b'F' => digit - b'A' + 10,
-        _ => 0,
-    }
+    (digit as char).to_digit(16).unwrap_or(0) as u8
 }
 
 // Puts the bytes that the digits stand for, two for each byte, at the start of the buffer, and answers them.
@@ -84,7 +84,8 @@ fn read_hexadecimal<'a>(digits: &[u8], bytes: &'a mut [u8; 64]) -> &'a [u8] {
     for (byte, pair) in bytes.iter_mut().zip(digits.chunks_exact(2)) {
         *byte = digit_value(pair[0]) * 16 + digit_value(pair[1]);
     }
-    &bytes[..std::cmp::min(64, digits.len() / 2)]
+    let len = bytes.len().min(digits.len() / 2);
+    &bytes[..len]
 }
 
 fn run_case(out: &mut Printer, line: &[u8]) {
@@ -108,8 +109,7 @@ fn main() {
     for chr in 0..=255 {
         put_byte_line(&mut out, chr);
     }
-    let mut text = io::buffer();
-    let n = io::read_full(lines::STDIN, &mut text);
-    run_cases(&mut out, &text[..n]);
+    let mut bytes = io::buffer();
+    run_cases(&mut out, lines::read_input(&mut bytes));
     out.finish();
 }

@@ -104,6 +104,13 @@ pub fn write_gap(buf: &mut [u8], at: usize, joins: bool)
     sise_serializer::write_gap(buf, at, joins);
 }
 
+// A style of two strings.
+pub fn style<'a>(line_break: &'a [u8], indentation: &'a [u8]) -> SerializerStyle<'a>
+    ensures { result ≡ record { line_break = line_break.entry; indentation = indentation.entry } }
+{
+    SerializerStyle::new(line_break, indentation)
+}
+
 // What ends a text: the line break, if wished.
 pub fn final_break<'a>(style: SerializerStyle<'a>, wished: bool) -> &'a [u8]
     ensures { result.now ≡ break_bytes wished style.entry.line_break.now }

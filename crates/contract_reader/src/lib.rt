@@ -3,10 +3,11 @@
 // three calls of Parser stand in sise_parser.
 #![tactic(auto)]
 
-ghost use Rattle.std.specs.Prelude.{◌≡◌, ◌≤◌, ◌↔◌, true, eqb, length, drop, get_or, IfSome, IsSome};
+ghost use Rattle.std.specs.Prelude.{◌≡◌, ◌≤◌, ◌<◌, ◌↔◌, true, false, eqb, length, drop, get_or, IfSome, IsSome};
+ghost use Rattle.sise_util.specs.Classes.{class_of};
 ghost use Rattle.sise_parser.specs.Refusals.{refusal, refusal_of, answer_number};
 ghost use Rattle.sise_parser.specs.Lexer.{between};
-ghost use Rattle.sise_parser.specs.Plain.{skip_blanks, atom_run, AtomTo};
+ghost use Rattle.sise_parser.specs.Plain.{is_blank, skip_blanks, atom_run, AtomTo};
 ghost use Rattle.sise_parser.specs.Reader.{fresh_reader, is_sound, next_item, finish_reading, part_of, next, reader, item as answer_item};
 ghost use Rattle.sise_parser.specs.PlainItems.{IsPlain};
 ghost use Rattle.sise_parser.specs.Phases.{ReadsPhase};
@@ -67,6 +68,7 @@ pub fn skip_blanks(text: &[u8], from: usize) -> usize
     ensures same { result ≡ skip_blanks (drop from text.now) from }
     ensures after { from ≤ result }
     ensures token { between (drop from text.now) from ≡ between (drop result text.now) result }
+    ensures stop { result < length text.now → is_blank (class_of (get_or text.now result 0)) ≡ false }
 {
     sise_parser::skip_blanks(text, from)
 }

@@ -1,19 +1,21 @@
-// Every public call of sise_tree, under the contract that it has there and with a body that only calls it: the promises of the library on one page. An
-// edit of must-fail/ puts a wrong program in the place of a body, and the contract has to refuse it.
+// Every public call of sise_tree, under the contract that it has there and with a body that only calls it: the promises of the library on one page; with
+// them what sise_parser says in numbers of the library's answers: `answer_number` of each, and of parse_tree's the place and the code point, by `map_or_else`.
+// An edit of must-fail/ puts a wrong program in the place of a body, and the contract has to refuse it.
 #![tactic(auto)]
 
 ghost use Rattle.std.specs.Prelude.{◌≡◌, ◌<◌, ◌^◌};
+ghost use Rattle.sise_parser.specs.Refusals.{refusal};
 ghost use Rattle.sise_tree.specs.NodeWords.{node_words};
 ghost use Rattle.sise_tree.specs.Decision.{decide};
 ghost use Rattle.sise_tree.specs.Held.{held_as};
 ghost use Rattle.sise_tree.specs.IndexPath.{index_path};
 ghost use Rattle.sise_tree.specs.FindPath.{find_path, found_as, found_number};
 ghost use Rattle.sise_tree.specs.declared.parse.TreeError.TheVariants.{Refused};
-ghost use Rattle.sise_tree.specs.Answers.{indexed_as, path_refusal, parsed_as, number_of, place_of, code_of};
+ghost use Rattle.sise_tree.specs.Answers.{indexed_as, path_refusal, parsed_as, tree_refusal, number_of, place_of, code_of};
 ghost use Rattle.sise_tree.specs.ParseTree.{parse_tree, DoesParse};
 ghost use Rattle.sise_tree.specs.ParseText.{parse_text, DoesParseText};
 
-use sise_parser::{ParseError, Reader, Refusal, answer_number};
+use sise_parser::{ParseError, Reader, Refusal, RefusalNumbers, answer_number};
 use sise_tree::{Found, NodeWords, PathError, TableError, TreeError, TreeRead, TreeTable};
 
 // ---- parse.rt
@@ -44,6 +46,13 @@ pub fn code(answer: Result<usize, TreeError>) -> u32
     ensures { result ≡ code_of (parsed_as answer) }
 {
     answer.map_or_else(|error| error.code(), |_| 0)
+}
+
+// The three numbers of a refusal of parse_tree or parse_text.
+pub fn tree_numbers(error: TreeError) -> RefusalNumbers
+    ensures { refusal result.number result.place result.code ≡ tree_refusal error }
+{
+    error.numbers()
 }
 
 // ---- whole.rt
@@ -120,6 +129,13 @@ pub fn path_code(refused: PathError) -> u32
     ensures { result ≡ (path_refusal refused).code }
 {
     refused.code()
+}
+
+// The three numbers together.
+pub fn path_numbers(refused: PathError) -> RefusalNumbers
+    ensures { refusal result.number result.place result.code ≡ path_refusal refused }
+{
+    refused.numbers()
 }
 
 // A refusal of the reader, as one of the tree calls.

@@ -81,6 +81,19 @@ pub fn measured_number(measured: Result<TreeSize, WriteTreeError>) -> u32
     answer_number(measured)
 }
 
+// The place and the code point of a refusal: it has none. The trait has both methods once for all errors; here stands what they answer for this one.
+pub fn refusal_place(refused: WriteTreeError) -> usize
+    ensures { result ≡ (write_refusal refused).place }
+{
+    refused.place()
+}
+
+pub fn refusal_code(refused: WriteTreeError) -> u32
+    ensures { result ≡ (write_refusal refused).code }
+{
+    refused.code()
+}
+
 // ---- whole.rt
 
 // Writes a whole text: the tree that `tree` holds, and a line break behind it if wished.
@@ -139,20 +152,7 @@ pub fn serialize_house(buf: &mut [u8], tree: TreeTable<'_>) -> TreeWrote
     sise_tree_writer::serialize_house(buf, tree)
 }
 
-// The place and the code point of a refusal: it has none.
-pub fn refusal_place(refused: WriteTreeError) -> usize
-    ensures { result ≡ (write_refusal refused).place }
-{
-    refused.place()
-}
-
-pub fn refusal_code(refused: WriteTreeError) -> u32
-    ensures { result ≡ (write_refusal refused).code }
-{
-    refused.code()
-}
-
-// ---- writing.rt
+// ---- serialize.rt, its From
 
 // The refusal of a table that holds no tree of atoms, as one of the calls that write.
 pub fn from_table(refused: TableError) -> WriteTreeError

@@ -5,10 +5,18 @@
 
 ghost use Rattle.std.specs.Prelude.{◌≡◌, false, [], ◌∷◌, MatchOption};
 ghost use Rattle.sise_serializer.specs.Serializer.{write_refusal, fresh_serializer, style_of, is_sound, answer_as, number_of, phase_after};
-ghost use Rattle.sise_serializer.specs.Phases.{DecodesPhase};
-ghost use Rattle.sise_serializer.specs.Parts.{wrote_of};
-ghost use Rattle.sise_serializer.specs.Plan.{behind_first, behind_new_line, behind_in_line, behind_end_on_new_line, behind_end_in_line, behind_finish, PlansAs, PlansItem};
-ghost use Rattle.sise_serializer.specs.Calls.{Does, step, put_atom_call, begin_list_call, end_list_call, finish_call};
+ghost use Rattle.sise_serializer.specs.Phases.{is_over, DecodesPhase};
+ghost use Rattle.sise_serializer.specs.Parts.{
+  wrote_of,
+  behind_first,
+  behind_new_line,
+  behind_in_line,
+  behind_end_on_new_line,
+  behind_end_in_line,
+  behind_finish,
+};
+ghost use Rattle.sise_serializer.specs.Plan.{PlansCall, PlansItem};
+ghost use Rattle.sise_serializer.specs.Calls.{Does, put_atom_call, begin_list_call, end_list_call, finish_call};
 
 use sise_parser::{Refusal, answer_number};
 use sise_serializer::{
@@ -123,7 +131,14 @@ pub fn phase_from(word: u64) -> Result<Phase, UnknownPhase>
     Phase::try_from(word)
 }
 
-// The place and the code point of a refusal: it has none.
+// Whether no item may follow in a phase.
+pub fn is_over(phase: Phase) -> bool
+    ensures { result ≡ is_over phase }
+{
+    phase.is_over()
+}
+
+// The place and the code point of a refusal: it has none. The trait has both methods once for all errors; here stands what they answer for this one.
 pub fn refusal_place(refused: WriteError) -> usize
     ensures { result ≡ (write_refusal refused).place }
 {
@@ -212,7 +227,7 @@ pub fn plan_end(
     style: SerializerStyle<'_>,
     room: usize,
 ) -> Result<Planned, WriteError>
-    ensures { PlansAs (style_of style.entry) room w.serializer (41 ∷ []) (step (style_of style.entry) room w.serializer end_list_call) result }
+    ensures { PlansCall (style_of style.entry) room w.serializer (41 ∷ []) end_list_call result }
 {
     w.plan_end(style, room)
 }
@@ -224,7 +239,7 @@ pub fn plan_finish(
     room: usize,
     insert_line_break: bool,
 ) -> Result<Planned, WriteError>
-    ensures { PlansAs (style_of style.entry) room w.serializer [] (step (style_of style.entry) room w.serializer (finish_call insert_line_break)) result }
+    ensures { PlansCall (style_of style.entry) room w.serializer [] (finish_call insert_line_break) result }
 {
     w.plan_finish(style, room, insert_line_break)
 }

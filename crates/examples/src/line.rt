@@ -3,7 +3,7 @@ use lines::Printer;
 use sise_parser::Refusal;
 
 // `name: value`, or `name: refused number place`
-pub(crate) fn put_answer<E: Refusal>(out: &mut Printer, name: &[u8], answer: Result<usize, E>) {
+pub(crate) fn put_line<E: Refusal>(out: &mut Printer, name: &[u8], answer: Result<usize, E>) {
     out.put_bytes(name);
     match answer {
         Ok(value) => out.put_letter(b':', value),

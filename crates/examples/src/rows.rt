@@ -1,6 +1,6 @@
 // Rows of the table of refusals, and lists in each other.
 use crate::STYLE;
-use crate::line::put_answer;
+use crate::line::put_line;
 use lines::Printer;
 use sise_parser::{ParseError, ParsedItem, Phase, Reader};
 use sise_serializer::{Serializer, WriteError};
@@ -75,12 +75,12 @@ fn size_changed() -> Result<usize, WriteTreeError> {
 }
 
 pub(crate) fn put_rows(out: &mut Printer) {
-    put_answer(out, b"row 11", unsound().map(|_| 0));
-    put_answer(out, b"row 12", closed());
-    put_answer(out, b"row 14", table_full());
-    put_answer(out, b"row 15", no_tree());
-    put_answer(out, b"row 20", not_finished());
-    put_answer(out, b"list 250", nested(249));
-    put_answer(out, b"row 22", no_room());
-    put_answer(out, b"row 23", size_changed());
+    put_line(out, b"row 11", unsound().map(|_| 0));
+    put_line(out, b"row 12", closed());
+    put_line(out, b"row 14", table_full());
+    put_line(out, b"row 15", no_tree());
+    put_line(out, b"row 20", not_finished());
+    put_line(out, b"list 250", nested(249));
+    put_line(out, b"row 22", no_room());
+    put_line(out, b"row 23", size_changed());
 }

@@ -1,15 +1,15 @@
 // The worked table and its paths; and the tree written again.
 use crate::STYLE;
-use crate::line::put_answer;
+use crate::line::put_line;
 use lines::Printer;
 use sise_parser::Reader;
 use sise_serializer::Serializer;
 use sise_tree::{TreeTable, parse_tree};
 use sise_tree_writer::{serialize_house, serialize_house_at, serialize_tree};
 
-// A line of words, a space between two.
-fn put_words(out: &mut Printer, words: &[u32]) {
-    for (i, &word) in words.iter().enumerate() {
+// The line of a node's words, a space between two.
+fn put_row(out: &mut Printer, row: &[u32]) {
+    for (i, &word) in row.iter().enumerate() {
         if 0 < i {
             out.put_byte(b' ');
         }
@@ -26,7 +26,7 @@ fn put_paths(out: &mut Printer, tree: TreeTable<'_>) {
         (b"path 0 0", &[0, 0]),
     ];
     for (name, path) in paths {
-        put_answer(out, name, tree.index_path(path));
+        put_line(out, name, tree.index_path(path));
     }
 }
 
@@ -46,9 +46,9 @@ pub(crate) fn put_trees(out: &mut Printer) {
     let text = b"(z (+1 \"a b\") ~)";
     let mut table = [7; 28];
     let read = parse_tree(text, Reader::new(), &mut table);
-    put_answer(out, b"nodes", read.answer);
+    put_line(out, b"nodes", read.answer);
     for row in table.chunks(4) {
-        put_words(out, row);
+        put_row(out, row);
     }
     let tree = TreeTable {
         text,

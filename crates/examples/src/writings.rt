@@ -1,6 +1,6 @@
 // The worked writings.
 use crate::STYLE;
-use crate::line::put_answer;
+use crate::line::put_line;
 use lines::Printer;
 use sise_serializer::{Call, Serializer};
 
@@ -32,7 +32,7 @@ fn put_writing(out: &mut Printer, threshold: u64) {
     for call in calls {
         let wrote = serializer.make_call(call, STYLE, &mut buf);
         serializer = wrote.serializer;
-        put_answer(out, b"offset", wrote.answer);
+        put_line(out, b"offset", wrote.answer);
     }
     out.put_text(b"", buf.get(..serializer.position));
 }

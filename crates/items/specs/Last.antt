@@ -3,13 +3,9 @@
 use Rattle.std.specs.Prelude.{List, [], ◌∷◌, ◌++◌, ℕ, Result, Ok, Err}
 use Rattle.sise_parser.specs.Refusals.{refusal_of}
 use Rattle.sise_parser.specs.declared.error.ParseError.{ParseError}
-use Rattle.lines.specs.Put.{number}
+use Rattle.lines.specs.Put.{refusal_text}
 
--- `refused number place`, with document 01's number, and the place 0 where it has none
-unfoldable pub refused_line : ParseError → List ℕ
-refused_line e = 114 ∷ 101 ∷ 102 ∷ 117 ∷ 115 ∷ 101 ∷ 100 ∷ (number (refusal_of e).number ++ number (refusal_of e).place ++ (10 ∷ []))
-
--- `ok`, or the refusal
+-- `ok`, or `refused number place` with document 01's number, and the place 0 where it has none
 unfoldable pub last_line : Result (Unit {0}) ParseError → List ℕ
 last_line (Ok _) = 111 ∷ 107 ∷ 10 ∷ []
-last_line (Err e) = refused_line e
+last_line (Err e) = refusal_text (114 ∷ 101 ∷ 102 ∷ 117 ∷ 115 ∷ 101 ∷ 100 ∷ []) 2 (refusal_of e) ++ (10 ∷ [])

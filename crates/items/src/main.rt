@@ -5,30 +5,24 @@
 
 ghost use Rattle.std.specs.Prelude.{◌≡◌};
 ghost use Rattle.lines.specs.Put.{put};
-ghost use Rattle.items.specs.Last.{refused_line, last_line};
+ghost use Rattle.items.specs.Last.{last_line};
 
 use lines::Printer;
 use sise_parser::{ParseError, Phase, Reader};
-
-fn put_refused(out: &mut Printer, error: ParseError)
-    ensures { out.new ≡ put out.old (refused_line error) }
-{
-    out.put_refusal(b"refused", error, 2);
-    out.put_byte(b'\n');
-}
 
 // replay_reader has a function of the same name for its own line: one for both would take both words and how many numbers stand behind them.
 fn put_finished(out: &mut Printer, finished: Result<(), ParseError>)
     ensures { out.new ≡ put out.old (last_line finished) }
 {
     match finished {
-        Ok(()) => out.put_bytes(b"ok\n"),
-        Err(error) => put_refused(out, error),
+        Ok(()) => out.put_bytes(b"ok"),
+        Err(error) => out.put_refusal(b"refused", error, 2),
     }
+    out.put_byte(b'\n');
 }
 
-// Each turn but the last reads an item, and a text of n bytes has n items at most, so that n + 1 turns are enough. An iterator over the items would be a struct
-// with the record and the text and an impl whose `next` is this loop's body, and no plainer.
+// Each turn but the last reads an item, and a text of n bytes has n items at most, so that n + 1 turns are enough. No iterator over the items: the record goes
+// by value from call to call, as document 01 names the form, and an iterator would keep it behind a `&mut`.
 fn put_items(out: &mut Printer, text: &[u8]) -> Result<(), ParseError> {
     let mut reader = Reader::new();
     for _ in 0..=text.len() {
@@ -45,13 +39,13 @@ fn put_items(out: &mut Printer, text: &[u8]) -> Result<(), ParseError> {
 
 fn main() {
     let mut out = Printer::new();
-    let mut text = io::large_buffer();
-    let n = io::read_full(lines::STDIN, &mut text);
-    let mut more = [0u8; 1];
-    if n == 65536 && 0 < io::read_full(lines::STDIN, &mut more) {
+    let mut bytes = io::large_buffer();
+    let text = lines::read_input(&mut bytes);
+    let mut more = [0];
+    if text.len() == 65536 && !lines::read_input(&mut more).is_empty() {
         out.put_bytes(b"long\n");
     } else {
-        let finished = put_items(&mut out, &text[..n]);
+        let finished = put_items(&mut out, text);
         put_finished(&mut out, finished);
     }
     out.finish();

@@ -1,22 +1,29 @@
 // Text for a program's output, collected in a block, which is written whenever it is full.
 #![tactic(auto)]
 
-ghost use Rattle.std.specs.Prelude.{◌≡◌, ◌≤◌, ◌↔◌, [], ◌∷◌, IsTrue};
+ghost use Rattle.std.specs.Prelude.{◌≡◌, ◌≤◌, [], ◌∷◌, length};
 ghost use Rattle.lines.specs.Put.{output, put, decimal, number, numbers_text, text_line, item_text, refusal_text};
 
-use sise_parser::{ParsedItem, Refusal};
-use std::cmp::min;
+use sise_parser::{ParsedItem, Refusal, RefusalNumbers};
 use std::marker::Model;
 
-// The standard streams by their numbers.
-pub const STDIN: i32 = 0;
+// The standard streams by their numbers. libc names them too: one more crate to list, for two numbers that `io` takes as numbers.
+const STDIN: i32 = 0;
 
-pub const STDOUT: i32 = 1;
+const STDOUT: i32 = 1;
+
+// Reads standard input into `bytes`, until they are full, it ends or a read fails: the bytes read. No clause can say what a file holds.
+pub fn read_input(bytes: &mut [u8]) -> &[u8]
+    ensures { length result.now ≤ length bytes.old }
+{
+    let n = io::read_full(STDIN, bytes);
+    &bytes[..n]
+}
 
 // A program's output: the block, and the place behind the bytes in it that wait to be written. A clause sees both as an `Output`. It cannot be dropped, so
-// that a program has to end with `finish`, and no byte is lost. It is a block and a place, and no `Vec`, since the project uses no heap. A value's text is
-// put by a method or by a function over a printer, and no value has a `Display`: `write!` promises its text only where it answers `Ok`, and no clause says
-// that it does; the methods here cannot fail, and promise each byte.
+// that a program has to end with `finish`, and no byte stays in the block. It is a block and a place, and no `Vec`, since the project uses no heap. A
+// value's text is put by a method or by a function over a printer, and no value has a `Display`: `write!` promises its text only where it answers `Ok`, and
+// no clause says that it does; the methods here cannot fail, and promise each byte.
 pub struct Printer {
     place: usize,
     block: [u8; 4096],
@@ -43,30 +50,24 @@ impl Printer {
         }
     }
 
-    // Writes the bytes that wait to standard output. No contract can say what is written.
-    pub fn flush(&mut self)
+    // Writes the bytes that wait to standard output. A write that fails is not reported.
+    fn flush(&mut self)
         ensures { self.new ≡ output 0 self.old.bytes }
     {
         io::write_all(STDOUT, &self.block[..self.place]);
         self.place = 0;
     }
 
-    // Writes what waits, at the program's end. It has no clause: nothing is left of the output, and no clause can say what a file holds.
+    // Writes what waits, at the program's end. It has no clause: nothing is left of the output, and of a file no clause says what it holds.
     pub fn finish(mut self) {
         self.flush();
         let Printer { place: _, block: _ } = self;
     }
 
-    fn is_full(&self) -> bool
-        ensures { IsTrue result ↔ (4096 ≤ self.now.place) }
-    {
-        4096 <= self.place
-    }
-
     pub fn put_byte(&mut self, byte: u8)
         ensures { self.new ≡ put self.old (byte ∷ []) }
     {
-        if self.is_full() {
+        if self.block.len() <= self.place {
             self.flush();
         }
         self.block[self.place] = byte;
@@ -92,7 +93,7 @@ impl Printer {
         }
     }
 
-    // Puts the decimal digits of n.
+    // Puts the decimal digits of n. `io::decimal` answers how many it wrote, and lends none of them.
     pub fn put_decimal(&mut self, n: u64)
         ensures { self.new ≡ put self.old (decimal n) }
     {
@@ -145,12 +146,12 @@ impl Printer {
     pub fn put_refusal<E: Refusal>(&mut self, word: &[u8], error: E, parts: usize)
         ensures { self.new ≡ put self.old (refusal_text word.now parts (E.meaning error)) }
     {
-        let numbers = [
-            error.number() as usize,
-            error.place(),
-            error.code() as usize,
-        ];
+        let RefusalNumbers {
+            number,
+            place,
+            code,
+        } = error.numbers();
         self.put_bytes(word);
-        self.put_numbers(&numbers[..min(parts, 3)]);
+        self.put_numbers(&[number as usize, place, code as usize][..parts.min(3)]);
     }
 }

@@ -1,6 +1,6 @@
 // Runs the cases of a script and prints every answer, with the record that each call leaves.
 //
-// The script stands on standard input, 1,048,576 bytes at most: what follows is not read. It is cases with nothing between them, each begun by a letter
+// The script is read from standard input, 1,048,576 bytes at most: what follows is not read. It is cases with nothing between them, each begun by a letter
 // for its kind. Numbers are decimal and below 1,000,000,000.
 //
 // R, the reader: the line `R N K F`, then the N bytes of a text, then a line end. next_item is called K times from a fresh reader, each time with the
@@ -48,7 +48,13 @@ ghost use Rattle.script.specs.Onward.{Onward};
 use lines::Printer;
 use script::{Malformed, Script};
 
-// Runs the case whose letter was read. It is a byte of the script, matched here alone, and no enum stands for it: that would be a second table of the letters.
+// The byte that fills each buffer at first.
+const FILL: u8 = 0xAA;
+
+// The most bytes of a script.
+const MAX_INPUT: usize = 1048576;
+
+// Runs the case whose letter was read. It is a byte of the script, and no enum stands for it: that would be a second table of the letters.
 fn run_case(out: &mut Printer, letter: u8, script: &mut Script<'_>) -> Result<(), Malformed>
     ensures { OnOk result (Onward script.old script.new) }
 {
@@ -70,16 +76,16 @@ fn run_script(out: &mut Printer, script: &mut Script<'_>) -> Result<(), Malforme
 
 // Runs the script on standard input, which is read into the array. The array's length comes from the parameter's type, and not from a proof that counts
 // its zeros.
-fn run_input(bytes: &mut [u8; 1048576]) {
-    let n = io::read_full(lines::STDIN, bytes);
+fn run_input(bytes: &mut [u8; MAX_INPUT]) {
+    let mut script = Script::new(lines::read_input(bytes));
     let mut out = Printer::new();
-    if run_script(&mut out, &mut Script::new(&bytes[..n])).is_err() {
+    if run_script(&mut out, &mut script).is_err() {
         out.put_bytes(b"malformed\n");
     }
     out.finish();
 }
 
 fn main() {
-    let mut bytes = [0; 1048576];
+    let mut bytes = [0; MAX_INPUT];
     run_input(&mut bytes);
 }

@@ -2,12 +2,13 @@
 ghost use Rattle.std.specs.Prelude.{◌≤◌, OnOk};
 ghost use Rattle.script.specs.Onward.{Onward};
 
+use crate::FILL;
 use crate::writer_case::{put_answer, put_call};
 use lines::Printer;
 use replay_reader::{put_reader, put_refusal};
-use script::{Malformed, Script, TextCase};
+use script::{MAX_LEN, Malformed, Script, TextCase, TreeCalls, WriterCase};
 use sise_parser::Reader;
-use sise_serializer::{Serializer, SerializerStyle};
+use sise_serializer::Serializer;
 use sise_tree::{TreeTable, parse_tree};
 use sise_tree_writer::{
     TreeSize, TreeWrote, WriteTreeError, commit_tree, measure_tree, serialize_house,
@@ -15,7 +16,7 @@ use sise_tree_writer::{
 };
 
 // The line of all words of the table.
-fn put_words(out: &mut Printer, table: &[u32]) {
+fn put_table(out: &mut Printer, table: &[u32]) {
     out.put_byte(b':');
     for &word in table {
         out.put_number(word as usize);
@@ -32,8 +33,8 @@ fn reader_after(text: &[u8], calls: usize) -> Reader {
     reader
 }
 
-// Reads a tree into the table after the case's calls of next_item.
-fn put_case(out: &mut Printer, case: TextCase<'_>, table: &mut [u32]) {
+// Reads a tree into the table after the case's calls of next_item, and puts the answer and the table.
+fn read_tree(out: &mut Printer, case: TextCase<'_>, table: &mut [u32]) {
     out.put_bytes(b"case\n");
     let read = parse_tree(case.text, reader_after(case.text, case.calls), table);
     match read.answer {
@@ -42,7 +43,7 @@ fn put_case(out: &mut Printer, case: TextCase<'_>, table: &mut [u32]) {
     }
     put_reader(out, read.reader);
     out.put_byte(b'\n');
-    put_words(out, table);
+    put_table(out, table);
 }
 
 // Each pair of the numbers is a place in the table and the word that is stored there.
@@ -68,33 +69,33 @@ fn put_size(out: &mut Printer, size: Result<TreeSize, WriteTreeError>) {
     out.put_byte(b'\n');
 }
 
-// What all writings of a case share: the style, the tree, the threshold, and how many lists the writer has open.
+// What the writings of a case are made of: its writer's line, its tree's line, and the tree.
 #[derive(Clone, Copy)]
 struct Writing<'a> {
-    style: SerializerStyle<'a>,
+    writer: WriterCase<'a>,
+    calls: TreeCalls,
     tree: TreeTable<'a>,
-    break_line_at: u64,
-    lists: usize,
 }
 
 impl Writing<'_> {
     // A writer with the lists open, each with an atom in it.
     fn open_lists(self, buf: &mut [u8]) -> Serializer {
+        let style = self.writer.style;
         let mut serializer = Serializer::new();
-        for _ in 0..self.lists {
-            serializer = serializer.begin_list(self.style, buf, u64::MAX).serializer;
-            serializer = serializer
-                .put_atom(self.style, buf, b"h", u64::MAX)
-                .serializer;
+        for _ in 0..self.calls.lists {
+            serializer = serializer.begin_list(style, buf, u64::MAX).serializer;
+            serializer = serializer.put_atom(style, buf, b"h", u64::MAX).serializer;
         }
         serializer
     }
 
     // Writes the tree, again and again, in one buffer.
-    fn put_trees(self, out: &mut Printer, buf: &mut [u8], times: usize) {
+    fn put_trees(self, out: &mut Printer, buf: &mut [u8]) {
+        let style = self.writer.style;
+        let break_line_at = self.calls.break_line_at;
         let mut serializer = self.open_lists(buf);
-        for _ in 0..times {
-            let wrote = serialize_tree(serializer, self.style, buf, self.tree, self.break_line_at);
+        for _ in 0..self.writer.calls {
+            let wrote = serialize_tree(serializer, style, buf, self.tree, break_line_at);
             serializer = wrote.serializer;
             put_wrote(out, buf, wrote);
         }
@@ -102,7 +103,7 @@ impl Writing<'_> {
 
     // Writes the tree in house style at 0, at the case's threshold, and at its own.
     fn put_houses(self, out: &mut Printer, buf: &mut [u8]) {
-        for break_line_at in [0, self.break_line_at] {
+        for break_line_at in [0, self.calls.break_line_at] {
             let wrote = serialize_house_at(buf, self.tree, break_line_at);
             put_wrote(out, buf, wrote);
         }
@@ -112,33 +113,28 @@ impl Writing<'_> {
 
     // Measures the tree, and commits it with a refusal, and twice with its size.
     fn put_commits(self, out: &mut Printer, buf: &mut [u8]) {
+        let style = self.writer.style;
+        let break_line_at = self.calls.break_line_at;
         let mut serializer = self.open_lists(buf);
-        let room = buf.len();
-        let size = measure_tree(serializer, self.style, room, self.tree, self.break_line_at);
-        put_size(out, size);
-        for size in [Err(WriteTreeError::NoRoom), size, size] {
-            let wrote = commit_tree(
-                serializer,
-                self.style,
-                buf,
-                self.tree,
-                self.break_line_at,
-                size,
-            );
+        let measured = measure_tree(serializer, style, buf.len(), self.tree, break_line_at);
+        put_size(out, measured);
+        for size in [Err(WriteTreeError::NoRoom), measured, measured] {
+            let wrote = commit_tree(serializer, style, buf, self.tree, break_line_at, size);
             serializer = wrote.serializer;
             put_wrote(out, buf, wrote);
         }
     }
 
-    // Writes the tree into a buffer of so many bytes, in house style into another, and by its size into a third.
-    fn put_writings(self, out: &mut Printer, room: usize, times: usize)
-        requires { room ≤ 4096 }
+    // Writes the tree into a buffer of the case's length, then in house style, then by its size; before each the buffer is filled anew.
+    fn put_writings(self, out: &mut Printer)
+        requires { self.writer.room ≤ 4096 }
     {
-        let mut memory = [170; 4096];
-        self.put_trees(out, &mut memory[..room], times);
-        memory.fill(170);
+        let mut memory = [FILL; MAX_LEN];
+        let room = self.writer.room;
+        self.put_trees(out, &mut memory[..room]);
+        memory.fill(FILL);
         self.put_houses(out, &mut memory[..room]);
-        memory.fill(170);
+        memory.fill(FILL);
         self.put_commits(out, &mut memory[..room]);
     }
 }
@@ -157,10 +153,10 @@ fn put_path(out: &mut Printer, tree: TreeTable<'_>, path: &[u64]) {
 pub(crate) fn run(out: &mut Printer, script: &mut Script<'_>) -> Result<(), Malformed>
     ensures { OnOk result (Onward script.old script.new) }
 {
-    let case = script.read_text_case(4096)?;
-    let mut words = [0xAAAA_AAAA; 4096];
+    let case = script.read_text_case(MAX_LEN)?;
+    let mut words = [0xAAAA_AAAA; MAX_LEN];
     let table = &mut words[..case.last];
-    put_case(out, case, table);
+    read_tree(out, case, table);
     script.read_byte(b'W')?;
     let writer = script.read_writer_case()?;
     let calls = script.read_tree_line()?;
@@ -172,12 +168,11 @@ pub(crate) fn run(out: &mut Printer, script: &mut Script<'_>) -> Result<(), Malf
         table,
     };
     let writing = Writing {
-        style: writer.style,
+        writer,
+        calls,
         tree,
-        break_line_at: calls.break_line_at,
-        lists: calls.lists,
     };
-    writing.put_writings(out, writer.room, writer.calls);
+    writing.put_writings(out);
     for _ in 0..calls.paths {
         put_path(out, tree, script.read_numbers(&mut list)?);
     }

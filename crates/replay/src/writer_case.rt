@@ -2,8 +2,9 @@
 ghost use Rattle.std.specs.Prelude.{OnOk};
 ghost use Rattle.script.specs.Onward.{Onward};
 
+use crate::FILL;
 use lines::Printer;
-use script::{Malformed, Script};
+use script::{MAX_LEN, Malformed, Script};
 use sise_parser::Refusal;
 use sise_serializer::Serializer;
 
@@ -22,14 +23,14 @@ pub(crate) fn put_answer<E: Refusal, const N: usize>(
     }
 }
 
-// The record, behind a bar.
+// The record, behind a bar. It has other numbers than the reader's, which put_reader of replay_reader puts.
 fn put_serializer(out: &mut Printer, serializer: Serializer) {
     out.put_bytes(b" |");
     out.put_numbers(&[
         serializer.position,
         serializer.phase as usize,
         serializer.lists,
-        serializer.list_beginning as usize,
+        usize::from(serializer.list_beginning),
         serializer.line_len,
         serializer.spaces,
         serializer.breaks,
@@ -38,7 +39,7 @@ fn put_serializer(out: &mut Printer, serializer: Serializer) {
     ]);
 }
 
-// The line of a call: what it answered, and the record that it left.
+// The line of a call: what it answered, and the record that it left. The line of a next_item call, by put_call of replay_reader, is another.
 pub(crate) fn put_call<E: Refusal>(out: &mut Printer, answer: Result<usize, E>, left: Serializer) {
     put_answer(out, b'@', answer.map(|offset| [offset]));
     put_serializer(out, left);
@@ -50,7 +51,7 @@ pub(crate) fn run(out: &mut Printer, script: &mut Script<'_>) -> Result<(), Malf
     ensures { OnOk result (Onward script.old script.new) }
 {
     let case = script.read_writer_case()?;
-    let mut memory = [170; 4096];
+    let mut memory = [FILL; MAX_LEN];
     let buf = &mut memory[..case.room];
     let mut serializer = Serializer::new();
     out.put_bytes(b"case\n");

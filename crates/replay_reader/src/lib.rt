@@ -10,7 +10,7 @@ use lines::Printer;
 use script::{Malformed, Script, TextCase};
 use sise_parser::{Next, ParseError, ParsedItem, Reader, Refusal, atom_bytes};
 
-// A refusal: its number, its place and its code point.
+// A refusal: its number, its place and its code point. The printer's method of this name, with these lines' word and number of parts.
 pub fn put_refusal<E: Refusal>(out: &mut Printer, error: E)
     ensures { out.new ≡ put out.old (refusal_text (E.meaning error)) }
 {
@@ -66,7 +66,6 @@ fn put_case(out: &mut Printer, case: TextCase<'_>) {
 pub fn run(out: &mut Printer, script: &mut Script<'_>) -> Result<(), Malformed>
     ensures { OnOk result (Onward script.old script.new) }
 {
-    let case = script.read_text_case(1)?;
-    put_case(out, case);
+    put_case(out, script.read_text_case(1)?);
     Ok(())
 }

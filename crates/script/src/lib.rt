@@ -1,4 +1,4 @@
-// The parts of a script: replay's main file says what a script is. A part that cannot be read is malformed; one that is read lies in the script.
+// The parts of a script: replay's main file says what a script is. A part that cannot be read is malformed; one that is read is a part of the script.
 #![tactic(auto)]
 
 mod tree;
@@ -11,9 +11,11 @@ use sise_serializer::{Call, SerializerStyle};
 use std::marker::Model;
 pub use tree::TreeCalls;
 
-// The number that stands for the largest of 64 bits. It is a number, and what begins a part is a letter, and no enum stands for either: a script is a
-// file's bytes, each letter is read at one place and matched there, and an enum would be a second table of the same letters.
+// The largest number of a script, which stands for the largest of 64 bits.
 const LARGEST: usize = 999999999;
+
+// The most bytes of a case's buffer, and the most words of its table.
+pub const MAX_LEN: usize = 4096;
 
 // The next part of the script is not what was to be read.
 #[derive(Clone, Copy, Debug, Drop, PartialEq, Eq)]
@@ -21,7 +23,7 @@ pub struct Malformed;
 
 // The fields of a case that begins with a text: the text, the number of next_item calls, and the last number of the line. `last` is a number, since two kinds
 // of case have this line: in one it says whether finish is called, in the other how long a table is, and a bool for the first would want a second function.
-#[derive(Clone, Copy)]
+#[derive(Clone, Copy, Debug, PartialEq, Eq)]
 pub struct TextCase<'a> {
     pub text: &'a [u8],
     pub calls: usize,
@@ -29,7 +31,7 @@ pub struct TextCase<'a> {
 }
 
 // The fields of a writer's line: the buffer's length, the style, and the number of calls.
-#[derive(Clone, Copy)]
+#[derive(Clone, Copy, Debug, PartialEq, Eq)]
 pub struct WriterCase<'a> {
     pub room: usize,
     pub style: SerializerStyle<'a>,
@@ -38,7 +40,7 @@ pub struct WriterCase<'a> {
 
 // The number of 64 bits that a number of the script stands for.
 #[tactic(auto, unfolding(crate::specs::Numbers::number_meant))]
-pub fn meant(number: usize) -> u64
+pub(crate) fn meant(number: usize) -> u64
     ensures { result ≡ number_meant number }
 {
     if number == LARGEST {
@@ -109,7 +111,7 @@ impl<'a> Script<'a> {
     }
 
     // The number that ends before the byte `end`. One of 1,000,000,000 or more is malformed, so that no sum wraps.
-    pub fn read_number(&mut self, end: u8) -> Result<usize, Malformed>
+    pub(crate) fn read_number(&mut self, end: u8) -> Result<usize, Malformed>
         ensures { IfOk result (λ n. Number end self.old n self.new) }
     {
         let mut value = 0;
@@ -119,7 +121,7 @@ impl<'a> Script<'a> {
                 return Ok(value);
             }
             let digit = (byte as char).to_digit(10).ok_or(Malformed)?;
-            if 99999999 < value {
+            if LARGEST / 10 < value {
                 return Err(Malformed);
             }
             value = value * 10 + digit as usize;
@@ -128,7 +130,7 @@ impl<'a> Script<'a> {
     }
 
     // A space and a number after it.
-    pub fn read_field(&mut self, end: u8) -> Result<usize, Malformed>
+    pub(crate) fn read_field(&mut self, end: u8) -> Result<usize, Malformed>
         ensures { IfOk result (λ n. Field end self.old n self.new) }
     {
         self.read_byte(b' ')?;
@@ -157,17 +159,14 @@ impl<'a> Script<'a> {
         let line_break_len = self.read_number(b' ')?;
         let indentation_len = self.read_number(b' ')?;
         let calls = self.read_number(b'\n')?;
-        if 4096 < room {
+        if MAX_LEN < room {
             return Err(Malformed);
         }
         let line_break = self.read_bytes(line_break_len)?;
         let indentation = self.read_text(indentation_len)?;
         Ok(WriterCase {
             room,
-            style: SerializerStyle {
-                line_break,
-                indentation,
-            },
+            style: SerializerStyle::new(line_break, indentation),
             calls,
         })
     }
@@ -185,7 +184,7 @@ impl<'a> Script<'a> {
         })
     }
 
-    // The next call of a writer's case.
+    // The next call of a writer's case. Its letter is matched here alone, and no enum stands for it: that would be a second table of the letters.
     pub fn read_call(&mut self) -> Result<Call<'a>, Malformed>
         ensures { IfOk result (CallFrom self.old self.new) }
     {

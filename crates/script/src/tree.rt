@@ -6,7 +6,7 @@ use crate::{Malformed, Script, meant};
 
 // What a tree's line asks for: how many lists the writer has open, the threshold, the table's first word that the tree calls are lent, and the number
 // of paths.
-#[derive(Clone, Copy)]
+#[derive(Clone, Copy, Debug, PartialEq, Eq)]
 pub struct TreeCalls {
     pub lists: usize,
     pub break_line_at: u64,
@@ -37,10 +37,7 @@ impl Script<'_> {
         ensures { IfOk result (NumbersFrom self.old self.new (length list.old)) }
     {
         let count = self.read_number(b' ')?;
-        if list.len() < count {
-            return Err(Malformed);
-        }
-        let numbers = &mut list[..count];
+        let numbers = list.get_mut(..count).ok_or(Malformed)?;
         for number in numbers.iter_mut() {
             *number = meant(self.read_number(b' ')?);
         }

@@ -119,7 +119,7 @@ module _ (text : List ℕ) {r q : Reader} {n : ℕ} (c : Counts text r n) where
 
 -- ---- filling
 
-words_length : (i : ParsedItem) → length (item_words i) ≡ 4
+pub words_length : (i : ParsedItem) → length (item_words i) ≡ 4
 words_length (Atom p n) = refl
 words_length (ListStart p) = refl
 words_length (ListEnd p) = refl

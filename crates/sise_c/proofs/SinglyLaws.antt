@@ -18,7 +18,7 @@ use Rattle.sise_serializer.specs.Bytes.{pasted}
 use Rattle.sise_serializer.specs.Calls.{Call, put_atom_call, begin_list_call, end_list_call, finish_call, step, Run, run}
 use Rattle.sise_serializer.specs.Serializer as serializer
 use Rattle.sise_serializer.specs.Serializer.{Style, accepted, Written, refuse, Piece, limit, is_sound, place, first_atom, first_list, inner, close, last, put_in, put_atom, begin_in, begin_list, end_in, end_list, finish_in, finish_writing}
-use Rattle.sise_serializer.specs.Words.{call_of, call_at, decoded, calls_of, answer_word, RunsFrom}
+use Rattle.sise_serializer.specs.Words.{call_of, call_at, decoded, calls_of, calls_from, answer_word, RunsFrom}
 use Rattle.sise_serializer.specs.declared.calls.Ran.{Ran}
 use Rattle.sise_serializer.specs.declared.serializer.Phase.{Phase}
 use Rattle.sise_serializer.specs.declared.serializer.Phase.TheVariants as phase
@@ -28,7 +28,7 @@ use Rattle.sise_serializer.proofs.Bytes.{pasted_none}
 use Rattle.sise_serializer.proofs.Does.{unsound_call}
 use Rattle.sise_serializer.proofs.Verdicts.{Verdict, refuses, puts, verdict}
 use Rattle.sise_tree.specs.Answers.{Answer, answered, refused, refused_with}
-use Rattle.std.specs.Prelude.{Option, None, Some, Result}
+use Rattle.std.specs.Prelude.{Option, None, Some, Result, Err}
 use Rattle.sise_c.specs.Records.{reader_words, serializer_of, serializer_words}
 use Rattle.sise_c.specs.declared.report.Numbered.{Numbered}
 use Rattle.sise_c.specs.Reports.{Tells}
@@ -103,29 +103,6 @@ pub record Made (c : Call) (s : Style) (w : Serializer) (buf : List ℕ) (r : Se
   pub answers : now ≡ answer_word (step s (length buf) w c).answer ∷ []
   pub buffer : bytes ≡ pasted buf w.position (step s (length buf) w c).bytes
 
-one_call : (ws atoms : List ℕ) (s : Style) (b : List ℕ) (w : Serializer) (c : Call) (r : Ran) {bytes now : List ℕ} → calls_of ws atoms 1 ≡ c ∷ []
-    → RunsFrom w s ws atoms b (4294967307 ∷ []) r bytes now → Made c s w b r.serializer now bytes
-unfolding run pasted
-one_call ws atoms s b w c r {bytes} {now} z d = split (is_sound w) sounds unsounds
-  where
-    answers_of : Run → List ℕ
-    answers_of x = pasted (4294967307 ∷ []) 0 (map answer_word x.answers)
-
-    sounds : is_sound w ≡ true → Made c s w b r.serializer now bytes
-    sounds h =
-        let y = ap (run s b w) (ap (λ (t : Bool). cond t (calls_of ws atoms 1) []) h ∙ z) in
-        record { serializer = d.serializer ∙ ap (λ (x : Run). x.last) y; answers = d.answers ∙ ap answers_of y; buffer = d.buffer ∙ ap (λ (x : Run). x.buffer) y }
-
-    unsounds : is_sound w ≡ false → Made c s w b r.serializer now bytes
-    unsounds h =
-        let y = ap (run s b w) (ap (λ (t : Bool). cond t (calls_of ws atoms 1) []) h) in
-        let u = sym (unsound_call s (length b) w c h) in
-        record {
-          serializer = d.serializer ∙ ap (λ (x : Run). x.last) y ∙ ap (λ (x : Written). x.serializer) u;
-          answers = d.answers ∙ ap answers_of y ∙ ap (λ (x : Written). answer_word x.answer ∷ []) u;
-          buffer = d.buffer ∙ ap (λ (x : Run). x.buffer) y ∙ sym (pasted_none b w.position) ∙ ap (λ (x : Written). pasted b w.position x.bytes) u;
-        }
-
 -- four words, of which the first is a kind, are one call
 calls_one : (ws atoms : List ℕ) → length ws ≡ 4 → get_or ws 0 0 ≤ 4 → calls_of ws atoms 1 ≡ call_at ws atoms 0 ∷ []
 unfolding decoded
@@ -136,9 +113,30 @@ calls_one (k ∷ p ∷ []) atoms e h = absurd (omega (arith, e))
 calls_one (k ∷ p ∷ n ∷ []) atoms e h = absurd (omega (arith, e))
 calls_one (k ∷ p ∷ n ∷ t ∷ x ∷ ws) atoms e h = absurd (omega (arith, e))
 
-pub one_made : (ws atoms : List ℕ) (s : Style) (b : List ℕ) (w : Serializer) (r : Ran) {bytes now : List ℕ} → length ws ≡ 4 → get_or ws 0 0 ≤ 4
-    → RunsFrom w s ws atoms b (4294967307 ∷ []) r bytes now → Made (call_at ws atoms 0) s w b r.serializer now bytes
-one_made ws atoms s b w r e h d = one_call ws atoms s b w (call_at ws atoms 0) r (calls_one ws atoms e h) d
+module _ (ws atoms : List ℕ) (s : Style) (b : List ℕ) (w : Serializer) (r : Ran) {bytes now : List ℕ} (e : length ws ≡ 4) (h : get_or ws 0 0 ≤ 4)
+    (d : RunsFrom w s ws atoms b (0 ∷ []) r bytes now) where
+  calls_by : (t : Bool) → is_sound w ≡ t → calls_from w ws atoms 1 ≡ cond t (call_at ws atoms 0 ∷ []) []
+  calls_by t z = ap (λ (x : Bool). cond x (calls_of ws atoms 1) []) z ∙ ap (λ (l : List Call). cond t l []) (calls_one ws atoms e h)
+
+  -- a call ran: the record is sound
+  pub one_made : (r.calls ≡ 0 → ⊥) → Made (call_at ws atoms 0) s w b r.serializer now bytes
+  unfolding run pasted
+  one_made n =
+      let sound : is_sound w ≡ true = split (is_sound w) (λ z. z) (λ z. absurd (n (d.calls ∙ ap length (calls_by false z)))) in
+      let y = ap (run s b w) (calls_by true sound) in
+      record {
+        serializer = d.serializer ∙ ap (λ (x : Run). x.last) y;
+        answers = d.answers ∙ ap (λ (x : Run). pasted (0 ∷ []) 0 (map answer_word x.answers)) y;
+        buffer = d.buffer ∙ ap (λ (x : Run). x.buffer) y;
+      }
+
+  -- none ran: it is unsound
+  pub none_made : r.calls ≡ 0 → (is_sound w ≡ false) × (r.serializer ≡ w) × (bytes ≡ b)
+  unfolding run
+  none_made n =
+      let unsound : is_sound w ≡ false = split (is_sound w) (λ z. absurd (omega (arith, n, d.calls ∙ ap length (calls_by true z)))) (λ z. z) in
+      let y = ap (run s b w) (calls_by false unsound) in
+      (unsound, d.serializer ∙ ap (λ (x : Run). x.last) y, d.buffer ∙ ap (λ (x : Run). x.buffer) y)
 
 pub made_below : {c : Call} {s : Style} {w : Serializer} {buf : List ℕ} {r : Serializer} {answers bytes : List ℕ} → Made c s w buf r answers bytes → get_or answers 0 0 < 2 ^ 33
 made_below {c} {s} {w} {buf} d = subst (λ (l : List ℕ). get_or l 0 0 < 2 ^ 33) (sym d.answers) (word_below (step s (length buf) w c).answer (small s (length buf) w c))
@@ -160,6 +158,13 @@ call_made c s ws buf {w = w} {told = told} e p t z =
     let a = (step s (length buf) w c).answer in
     let g = ap (λ (l : List ℕ). word_answer (get_or l 0 0)) p.answers ∙ word_answer_lem a (small s (length buf) w c) in
     rw (← e) (record { answer = subst (λ (x : Answer). Tells (λ (e : Numbered). e.0) x told) g t; words = z ∙ ap serializer_words p.serializer; bytes = p.buffer })
+
+pub call_none : (c : Call) (s : Style) (ws buf : List ℕ) {w r : Serializer} {n : ℕ} {words bytes : List ℕ} → Some w ≡ serializer_of ws
+    → (is_sound w ≡ false) × (r ≡ w) × (bytes ≡ buf) → n ≡ 11 → words ≡ serializer_words r → Makes (call_on c s ws buf) (Err (record { 0 = n })) words bytes
+unfolding call_by call_on
+call_none c s ws buf {w = w} e (h, d, b) z k =
+    rw (← e, unsound_call s (length buf) w c h, z)
+    (record { answer = record { result = refl; values = refl }; words = k ∙ ap serializer_words d; bytes = b ∙ sym (pasted_none buf w.position) })
 
 -- ---- a refused call leaves the words and the buffer: the record that it hands back is the one that it was given, and it has no bytes
 

@@ -1,5 +1,5 @@
 // The items of a whole text as words, four an item: the words that write_calls takes for the calls that write them.
-ghost use Rattle.std.specs.Prelude.{◌≡◌, ◌+◌, ◌*◌, ◌≤◌, [], length, MatchResult};
+ghost use Rattle.std.specs.Prelude.{◌≡◌, ◌+◌, ◌*◌, ◌≤◌, length, MatchResult};
 ghost use Rattle.sise_parser.specs.Refusals.{refusal_of};
 ghost use Rattle.sise_parser.specs.Meaning.{finished_as};
 ghost use Rattle.sise_parser.specs.Reader.{ended, not_ended};
@@ -20,7 +20,7 @@ fn ending_by(text: &[u8], reader: Reader, error: ParseError) -> Result<(), Parse
     Err(error)
 }
 
-// An item's words: its kind, its place, of an atom its length, and 0.
+// An item's words: its kind, its place, of an atom its length, and 0. The kinds are numbers, since C reads them: include/sise.h lists them.
 pub(crate) fn item_words(item: ParsedItem) -> [u64; 4]
     ensures { result ≡ item_words item }
 {
@@ -31,20 +31,15 @@ pub(crate) fn item_words(item: ParsedItem) -> [u64; 4]
     }
 }
 
-// They are written behind those of so many items, if there is room: one by one, since a copy of the four together takes 3 ns more an item. The count of the
-// items is what pass_items answers, so that an iterator over the fours of the words would stand beside it and not in its place: no plainer.
+// Writes an item's words behind those of so many items, if there is room. The place is worked out from the count: what the library says of chunks_exact_mut,
+// as_chunks_mut and get_mut leaves open what the words are after a chunk is written, and first_chunk_mut wants the part behind the count first.
 fn put_item(words: &mut [u64], items: usize, item: ParsedItem)
     ensures { 4 * (items + 1) ≤ length words.old → words.new ≡ pasted words.old (4 * items) (item_words item) }
 {
-    if items >= words.len() / 4 {
-        return;
+    if items < words.len() / 4 {
+        let at = 4 * items;
+        words[at..at + 4].copy_from_slice(&item_words(item));
     }
-    let at = 4 * items;
-    let [kind, place, len, last] = item_words(item);
-    words[at] = kind;
-    words[at + 1] = place;
-    words[at + 2] = len;
-    words[at + 3] = last;
 }
 
 // Reads the items one after the other and answers how many there are. The words of those that have room are written: to count alone, none is lent. A `loop` and
@@ -68,7 +63,8 @@ fn pass_items(text: &[u8], words: &mut [u64]) -> Result<usize, ParseError>
     }
 }
 
-// Reads the items of a whole text into words, if they have room, and answers how many there are.
+// Reads the items of a whole text into words, if they have room, and answers how many there are. parse_text of sise_tree counts, tests the room and fills in
+// the same order: one function for both would take the two passes as closures, and is longer than this body.
 #[tactic(auto, unfolding(crate::specs::Items::read_items, crate::specs::Items::items_in))]
 pub(crate) fn read_items(text: &[u8], words: &mut [u64]) -> Result<usize, TreeError>
     ensures answer { parsed_as result ≡ (read_items text.now words.old).answer }

@@ -1,9 +1,9 @@
 // Calls for programs in C and Rust, over numbers and slices alone: include/sise.h declares them and says what a caller owes. Each works on memory that is lent
 // to it: it does a whole job, or is one call of the reader or the writer over the words of a record (reading.rt, writing.rt). The result is 0 or document 01's
-// number of the refusal; `values` are what is answered and 0, or the refusal's place and code point. On a refusal nothing else is written, but for the record
-// of sise_next_item. Two calls answer otherwise: sise_atom_kind refuses nothing and returns a kind, and sise_write_calls returns how many bytes are written.
-// Answers are numbers and words, a style is two slices and a tree a table and its text, since C hands them over and reads them so. Each call is a function of
-// its own, under the contract of its exported name; each that writes makes the style by its literal, which a function for it would be no shorter than.
+// number of the refusal; `values` are what is answered, 0 behind a single number, or the refusal's place and code point. On a refusal nothing else is written
+// but the item and the record of sise_next_item and the size of sise_measure_tree. Two calls answer otherwise: sise_atom_kind refuses nothing and returns a
+// kind, and sise_write_calls returns how many bytes are written. Answers are numbers and words, a style is two slices and a tree a table and its text, since C
+// hands them over and reads them so. Each call is a function of its own, under the contract of its exported name.
 #![tactic(auto)]
 
 mod items;
@@ -26,7 +26,7 @@ use items::read_items;
 pub use reading::{ItemWords, ReaderWords, sise_finish_reading, sise_next_item};
 pub use report::{CallCount, Size, Values};
 use report::{found_words, number_words, report, size_given, size_words, written};
-use sise_parser::Refusal;
+use sise_parser::answer_number;
 use sise_serializer::{SerializerStyle, WriteError, write_calls};
 use sise_tree::{TreeTable, parse_text};
 use sise_tree_writer::{commit_text, measure_text, write_text};
@@ -39,11 +39,7 @@ pub use writing::{
 pub fn sise_check_atom(atom: &[u8]) -> u32
     ensures { result ≡ checked (is_atom atom.now) }
 {
-    if check_atom(atom).is_some() {
-        0
-    } else {
-        WriteError::InvalidAtom.number()
-    }
+    answer_number(check_atom(atom).ok_or(WriteError::InvalidAtom))
 }
 
 // Which atom the bytes are: 1 plain, with no `"` in it, 2 one whole string, 3 any other atom, and 0 no atom. It is the first word of such an atom in a table.
@@ -92,10 +88,7 @@ pub fn sise_serialize_tree(
     ensures answer { Reports (size_of (write_text (style line_break.now indentation.now) buf.old text.now table.now break_line_at final_break)) result values.new }
     ensures bytes { buf.new ≡ (write_text (style line_break.now indentation.now) buf.old text.now table.now break_line_at final_break).buffer }
 {
-    let style = SerializerStyle {
-        line_break,
-        indentation,
-    };
+    let style = SerializerStyle::new(line_break, indentation);
     let tree = TreeTable { table, text };
     let wrote = write_text(style, buf, tree, break_line_at, final_break);
     report(written(wrote), values)
@@ -115,10 +108,7 @@ pub fn sise_measure_tree(
 ) -> u32
     ensures { ReportsSize buf_len (λ b. write_text (style line_break.now indentation.now) b text.now table.now break_line_at final_break) result size.new }
 {
-    let style = SerializerStyle {
-        line_break,
-        indentation,
-    };
+    let style = SerializerStyle::new(line_break, indentation);
     let tree = TreeTable { table, text };
     let answer = measure_text(style, buf_len, tree, break_line_at, final_break);
     report(answer.map(size_words), size)
@@ -140,10 +130,7 @@ pub fn sise_commit_tree(
     ensures answer { TellsCommit (style line_break.now indentation.now) buf.old text.now table.now break_line_at final_break size.now result values.new }
     ensures bytes { WritesCommit (style line_break.now indentation.now) buf.old text.now table.now break_line_at final_break size.now buf.new }
 {
-    let style = SerializerStyle {
-        line_break,
-        indentation,
-    };
+    let style = SerializerStyle::new(line_break, indentation);
     let given = Ok(size_given(size));
     let tree = TreeTable { table, text };
     let wrote = commit_text(style, buf, tree, break_line_at, final_break, given);
@@ -171,10 +158,7 @@ pub fn sise_write_calls(
     ensures writes { WritesCalls (style line_break.now indentation.now) words.now atoms.now buf.old answers.old result buf.new answers.new }
     ensures ran { ran.new ≡ length (calls_of words.now atoms.now (length answers.old)) ∷ [] }
 {
-    let style = SerializerStyle {
-        line_break,
-        indentation,
-    };
+    let style = SerializerStyle::new(line_break, indentation);
     let all = write_calls(words, atoms, style, buf, answers);
     *ran = [all.calls as u64];
     all.serializer.position as u64

@@ -17,7 +17,7 @@ pub type ReaderWords = [u64; 3];
 pub type ItemWords = [u64; 3];
 
 // Words mean a record if the second is a phase. A function and no TryFrom, and reader_words no From: neither the record nor an array of words is a type of this
-// crate, so no impl of the two can stand here.
+// crate, and the record's own crate knows nothing of the words' order, which is C's.
 #[tactic(auto, using(crate::proofs::RecordLaws::no_reader_phase), unfolding(crate::specs::Records::reader_of))]
 fn reader_of(words: &ReaderWords) -> Option<Reader>
     ensures { result ≡ reader_of words.now }
@@ -34,12 +34,15 @@ fn reader_of(words: &ReaderWords) -> Option<Reader>
 fn reader_words(reader: Reader) -> ReaderWords
     ensures { result ≡ reader_words reader }
 {
-    let phase = reader.phase;
-    [reader.position as u64, phase as u64, reader.lists as u64]
+    [
+        reader.position as u64,
+        reader.phase as u64,
+        reader.lists as u64,
+    ]
 }
 
 // An item's kind, place and length.
-fn shown(item: ParsedItem) -> ItemWords
+fn item_values(item: ParsedItem) -> ItemWords
     ensures { result ≡ take 3 (item_words item) }
 {
     let [kind, place, len, _] = item_words(item);
@@ -54,8 +57,7 @@ fn next_item(text: &[u8], record: &mut ReaderWords) -> Result<ParsedItem, ParseE
 {
     let reader = reader_of(record).ok_or(ParseError::UnsoundRecord)?;
     let next = reader.next_item(text);
-    let after = next.reader;
-    *record = reader_words(after);
+    *record = reader_words(next.reader);
     next.answer
 }
 
@@ -65,7 +67,7 @@ pub fn sise_next_item(text: &[u8], record: &mut ReaderWords, item: &mut ItemWord
     ensures words { «record».new ≡ (next_of text.now «record».old).words }
 {
     let answer = next_item(text, record);
-    report(answer.map(shown), item)
+    report(answer.map(item_values), item)
 }
 
 // The end of the text by the record that the words mean.

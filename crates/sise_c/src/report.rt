@@ -1,4 +1,5 @@
-// How an answer is reported: its number as the result, its values in the words that the caller lent.
+// How an answer is reported: its number as the result, its values in the words that the caller lent. What makes words of an answer, or a size of words, is a
+// function and no From: neither the answers nor arrays of words are types of this crate.
 ghost use Rattle.std.specs.Prelude.{◌≡◌, ◌≤◌, [], ◌∷◌, Ok, MatchResult};
 ghost use Rattle.sise_parser.specs.Refusals.{refusal};
 ghost use Rattle.sise_tree_writer.specs.Answers.{put_as, error_number};
@@ -9,7 +10,7 @@ use sise_parser::{Refusal, RefusalNumbers};
 use sise_tree::Found;
 use sise_tree_writer::{TreeSize, TreeWrote, WriteTreeError};
 
-// What a call answers beside its result: the answer and 0, or the refusal's place and code point.
+// What a call answers beside its result: what it answers, 0 behind a single number, or the refusal's place and code point.
 pub type Values = [u64; 2];
 
 // The size of a tree: its bytes, line breaks and indentations.
@@ -61,7 +62,7 @@ pub(crate) fn found_words(found: Found) -> Values
     [found.index as u64, found.seen as u64]
 }
 
-// A refusal of a single call, by its number. It stays a number: make_call reads it back from the word in which a list of calls answers, and no clause of that
+// A refusal of a single call, by its number. It stays a number: word_answer reads it back from the word in which a list of calls answers, and no clause of that
 // says which refusals there are; an error of the writer would be made by a second table of the numbers.
 #[derive(Clone, Copy, Debug, PartialEq, Eq)]
 pub(crate) struct Numbered(pub(crate) u32);
@@ -74,15 +75,16 @@ impl Refusal for Numbered {
     }
 }
 
-// A tree that is written tells how far from the buffer's start the text goes.
+// What is reported of a tree written from the buffer's start: how many bytes the text has.
 pub(crate) fn written(wrote: TreeWrote) -> Result<Values, WriteTreeError>
     ensures { Tells (λ e. error_number e) (size_or wrote.serializer.position (put_as wrote.answer)) result }
 {
-    wrote.answer?;
-    Ok(number_words(wrote.serializer.position))
+    wrote
+        .answer
+        .and(Ok(number_words(wrote.serializer.position)))
 }
 
-// The size that three words hand over.
+// The size that three words are.
 pub(crate) fn size_given(size: &Size) -> TreeSize
     ensures { measured_as (Ok result) ≡ size_given size.now }
 {

@@ -1,5 +1,6 @@
 // The writer's calls one by one, over the words of a record that the caller keeps: position, phase (0 beginning, 1 writing, 2 finished, 3 done), open lists,
-// how many of them have a line break in them, whether the list is at its beginning (0 or 1), line length, spaces, breaks and indents.
+// how many of them have a line break in them, whether the list is at its beginning (0 or 1), line length, spaces, breaks and indents. The style is two slices,
+// and each call a function of its own, as lib.rt says.
 ghost use Rattle.std.specs.Prelude.{◌≡◌, ◌≤◌, ◌<◌, ◌^◌, get_or};
 ghost use Rattle.sise_serializer.specs.Calls.{put_atom_call, begin_list_call, end_list_call, finish_call};
 ghost use Rattle.sise_serializer.specs.Serializer.{style, style_of};
@@ -10,16 +11,10 @@ ghost use Rattle.sise_c.specs.Singly.{word_answer, call_on, Makes};
 
 use crate::report::{Numbered, Values, report};
 use sise_parser::Refusal;
-use sise_serializer::{Phase, Serializer, SerializerStyle, WriteError, write_calls_from};
+use sise_serializer::{Phase, REFUSED, Serializer, SerializerStyle, WriteError, write_calls_from};
 
 // A writer's record in words: C keeps it between the calls, and include/sise.h has it as an array.
 pub type WriterWords = [u64; 9];
-
-// The word of 11, UnsoundRecord's number, which stays where the record is unsound and no call runs.
-const UNSOUND: u64 = 4294967307;
-
-// An answer's word of at least this is a refusal's: this and its number (put_word of sise_serializer).
-const REFUSED: u64 = 4294967296;
 
 // A flag's word is 0 or 1. A `match` and no TryFrom: the library has none from u64 to bool.
 fn flag_of(word: u64) -> Option<bool>
@@ -32,8 +27,7 @@ fn flag_of(word: u64) -> Option<bool>
     }
 }
 
-// Words mean a record if the second is a phase and the fifth a flag. A function, and so is writer_words, as in reading.rt: no impl of the two types can stand
-// here.
+// Words mean a record if the second is a phase and the fifth a flag. A function, and so is writer_words, for the reasons that reading.rt gives at reader_of.
 #[tactic(auto, using(crate::proofs::RecordLaws::no_writer_phase), unfolding(crate::specs::Records::serializer_of))]
 fn writer_of(words: &WriterWords) -> Option<Serializer>
     ensures { result ≡ serializer_of words.now }
@@ -57,10 +51,9 @@ fn writer_of(words: &WriterWords) -> Option<Serializer>
 fn writer_words(w: Serializer) -> WriterWords
     ensures { result ≡ serializer_words w }
 {
-    let phase = w.phase;
     [
         w.position as u64,
-        phase as u64,
+        w.phase as u64,
         w.lists as u64,
         w.broken as u64,
         u64::from(w.list_beginning),
@@ -71,8 +64,8 @@ fn writer_words(w: Serializer) -> WriterWords
     ]
 }
 
-// What an answer's word tells, as the writer's lists of calls have it: the offset, or 2 ^ 32 and the refusal's number.
-fn told(word: u64) -> Result<Values, Numbered>
+// The answer of a call by its word in a list of calls, as put_word of sise_serializer writes it: the offset, or REFUSED and the refusal's number.
+fn word_answer(word: u64) -> Result<Values, Numbered>
     requires { word < 2 ^ 33 }
     ensures { Tells (λ e. e.0) (word_answer word) result }
 {
@@ -82,11 +75,11 @@ fn told(word: u64) -> Result<Values, Numbered>
     Err(Numbered((word - REFUSED) as u32))
 }
 
-// Makes the call that four words mean, of an atom or of no bytes, with the record that a caller keeps. It is made as a list of that call alone, by
-// write_calls_from: a second caller of the writer's steps would take them out of the loop of a whole list, and make that slower. So a call stands here in the
-// words that next_call of sise_serializer reads back: its kind by number, the place and length of its atom, and its threshold.
+// Makes the call that four words mean, of an atom or of no bytes, with the record that a caller keeps; on an unsound record none runs. It is made as a list of
+// that call alone, by write_calls_from: a second caller of the writer's steps would take them out of the loop of a whole list, and make that slower. So a call
+// stands here in the words that next_call of sise_serializer reads back: its kind by number, the place and length of its atom, and its threshold.
 #[tactic(auto, unfolding(crate::specs::Singly::call_on, crate::specs::Singly::call_by))]
-fn make_call(
+fn call_on(
     call: &[u64; 4],
     atom: &[u8],
     style: SerializerStyle<'_>,
@@ -96,11 +89,15 @@ fn make_call(
     requires { get_or call.now 0 0 ≤ 4 }
     ensures { Makes (call_on (call_at call.now atom.now 0) (style_of style.entry) «record».old buf.old) result «record».new buf.new }
 {
-    let w = writer_of(record).ok_or(Numbered(WriteError::UnsoundRecord.number()))?;
-    let mut answers = [UNSOUND];
+    let unsound = Numbered(WriteError::UnsoundRecord.number());
+    let w = writer_of(record).ok_or(unsound)?;
+    let mut answers = [0];
     let ran = write_calls_from(w, call, atom, style, buf, &mut answers);
     *record = writer_words(ran.serializer);
-    told(answers[0])
+    if ran.calls == 0 {
+        return Err(unsound);
+    }
+    word_answer(answers[0])
 }
 
 // Puts an atom. The first value is its offset.
@@ -118,12 +115,9 @@ pub fn sise_put_atom(
     ensures words { «record».new ≡ (call_on (put_atom_call atom.now break_line_at) (style line_break.now indentation.now) «record».old buf.old).words }
     ensures bytes { buf.new ≡ (call_on (put_atom_call atom.now break_line_at) (style line_break.now indentation.now) «record».old buf.old).buffer }
 {
-    let style = SerializerStyle {
-        line_break,
-        indentation,
-    };
+    let style = SerializerStyle::new(line_break, indentation);
     let call = [0, 0, atom.len() as u64, break_line_at];
-    report(make_call(&call, atom, style, buf, record), values)
+    report(call_on(&call, atom, style, buf, record), values)
 }
 
 // Begins a list. The first value is the offset of its `(`.
@@ -140,12 +134,9 @@ pub fn sise_begin_list(
     ensures words { «record».new ≡ (call_on (begin_list_call break_line_at) (style line_break.now indentation.now) «record».old buf.old).words }
     ensures bytes { buf.new ≡ (call_on (begin_list_call break_line_at) (style line_break.now indentation.now) «record».old buf.old).buffer }
 {
-    let style = SerializerStyle {
-        line_break,
-        indentation,
-    };
+    let style = SerializerStyle::new(line_break, indentation);
     let call = [1, 0, 0, break_line_at];
-    report(make_call(&call, b"", style, buf, record), values)
+    report(call_on(&call, b"", style, buf, record), values)
 }
 
 // Ends the innermost open list. The first value is the offset of its `)`.
@@ -161,12 +152,9 @@ pub fn sise_end_list(
     ensures words { «record».new ≡ (call_on end_list_call (style line_break.now indentation.now) «record».old buf.old).words }
     ensures bytes { buf.new ≡ (call_on end_list_call (style line_break.now indentation.now) «record».old buf.old).buffer }
 {
-    let style = SerializerStyle {
-        line_break,
-        indentation,
-    };
+    let style = SerializerStyle::new(line_break, indentation);
     let call = [2, 0, 0, 0];
-    report(make_call(&call, b"", style, buf, record), values)
+    report(call_on(&call, b"", style, buf, record), values)
 }
 
 // Ends the text, with a line break if wished. The first value is the text's end.
@@ -183,10 +171,7 @@ pub fn sise_finish_writing(
     ensures words { «record».new ≡ (call_on (finish_call final_break) (style line_break.now indentation.now) «record».old buf.old).words }
     ensures bytes { buf.new ≡ (call_on (finish_call final_break) (style line_break.now indentation.now) «record».old buf.old).buffer }
 {
-    let style = SerializerStyle {
-        line_break,
-        indentation,
-    };
+    let style = SerializerStyle::new(line_break, indentation);
     let call = [3 + u64::from(final_break), 0, 0, 0];
-    report(make_call(&call, b"", style, buf, record), values)
+    report(call_on(&call, b"", style, buf, record), values)
 }

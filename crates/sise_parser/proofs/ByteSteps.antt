@@ -2,16 +2,16 @@
 -- Assumes nothing.
 use mathlib.Core.Path.{◌≡◌, refl, sym, ap, ◌∙◌}
 use mathlib.Core.Bool.{Bool, true, false, false≢true}
-use mathlib.Core.Logic.{◌⊎◌, inl, inr, ⊎_elim}
+use mathlib.Core.Logic.{inl, inr, ⊎_elim}
 use mathlib.Core.List.{List, [], ◌∷◌}
 use Prim.Native.Nat.{ℕ, ◌+◌, ◌-◌, ◌<◌}
 use lib.Dec.{eqb}
 use lib.ListN.{length, drop, get_or}
 use borrow.Author.Tests.{eq-eqb, ne_eqb, eqb-true, eqb-false}
 use types.Run.{OneOf}
-use Rattle.sise_util.specs.Chars.{one_of, is_atom_chr}
+use Rattle.sise_util.specs.Chars.{is_atom_chr}
 use Rattle.sise_util.specs.Classes.{Class, space, quote, tab, atom_chr, line_end, backslash, other, semicolon, left, right, printable, class_of, class_number}
-use Rattle.sise_util.proofs.ClassLaws.{space_number, tab_number, line_end_number, semicolon_number, left_number, right_number, quote_number, atom_number}
+use Rattle.sise_util.proofs.ClassLaws.{semicolon_number, left_number, right_number, quote_number, atom_number}
 use Rattle.sise_parser.specs.Lexer.{found, opening, closing, atom, wrong, between, comment, plain, string}
 use Rattle.sise_parser.specs.Plain.{is_blank, skip_blanks, atom_run}
 use Rattle.sise_parser.specs.Meaning.{Reads}
@@ -45,25 +45,6 @@ module _ (text : List ℕ) (p : ℕ) (h : p < length text) where
   plain_stop s n d = steps.plain_stops reads s ((tt, hasn't 3 (atom_number b) n), hasn't 1 (quote_number b) (ne_eqb b 34 d))
 
   -- between tokens
-  line_end_lem : (b ≡ 10) ⊎ (b ≡ 13) → k ≡ 4
-  unfolding one_of
-  line_end_lem = ⊎_elim (λ e. has 4 (line_end_number b) (rw (eq-eqb b 10 e))) (λ e. has 4 (line_end_number b) (yes e))
-    where
-      yes : b ≡ 13 → one_of (10 ∷ 13 ∷ []) b ≡ true
-      yes e = ap (one_of (10 ∷ 13 ∷ [])) e
-
-  space_blank : OneOf (10 ∷ 32 ∷ []) b → OneOf (0 ∷ 2 ∷ 4 ∷ []) k
-  space_blank = ⊎_elim (λ e. inr (inr (line_end_lem (inl e)))) (λ e. inl (has 0 (space_number b) (eq-eqb b 32 e)))
-
-  tab_blank : OneOf (9 ∷ 13 ∷ []) b → OneOf (0 ∷ 2 ∷ 4 ∷ []) k
-  tab_blank = ⊎_elim (λ e. inr (inl (has 2 (tab_number b) (eq-eqb b 9 e)))) (λ e. inr (inr (line_end_lem (inr e))))
-
-  pub between_space : OneOf (10 ∷ 32 ∷ []) b → between (drop p text) p ≡ between (drop (p + 1) text) (p + 1)
-  between_space n = steps.between_blank reads (space_blank n)
-
-  pub between_tab : OneOf (9 ∷ 13 ∷ []) b → between (drop p text) p ≡ between (drop (p + 1) text) (p + 1)
-  between_tab n = steps.between_blank reads (tab_blank n)
-
   pub between_comment : b ≡ 59 → between (drop p text) p ≡ comment (drop (p + 1) text) (p + 1)
   between_comment e = steps.between_semicolon reads (has 7 (semicolon_number b) (eq-eqb b 59 e))
 
@@ -79,22 +60,12 @@ module _ (text : List ℕ) (p : ℕ) (h : p < length text) where
   pub between_string : b ≡ 34 → between (drop p text) p ≡ plain (drop p text) p p
   between_string e = steps.between_atom reads (inl (has 1 (quote_number b) (eq-eqb b 34 e)))
 
-  no_blank : (OneOf (10 ∷ 32 ∷ []) b → ⊥) → (OneOf (9 ∷ 13 ∷ []) b → ⊥) → OneOf (0 ∷ 2 ∷ 4 ∷ []) k → ⊥
-  no_blank blank tabs =
-      ⊎_elim (hasn't 0 (space_number b) (ne_eqb b 32 (λ e. blank (inr e))))
-      (⊎_elim (hasn't 2 (tab_number b) (ne_eqb b 9 (λ e. tabs (inl e)))) (hasn't 4 (line_end_number b) no_line_end))
-    where
-      no_line_end : one_of (10 ∷ 13 ∷ []) b ≡ false
-      no_line_end = unfold one_of in rw (ne_eqb b 10 (λ e. blank (inl e)), ne_eqb b 13 (λ e. tabs (inr e)))
-
   -- no byte that begins a token or is a blank
-  pub between_wrong : (OneOf (10 ∷ 32 ∷ []) b → ⊥) → (OneOf (9 ∷ 13 ∷ []) b → ⊥) → (b ≡ 40 → ⊥) → (b ≡ 41 → ⊥) → (b ≡ 59 → ⊥)
-      → is_atom_chr b ≡ false → (b ≡ 34 → ⊥) → between (drop p text) p ≡ wrong 1 (drop p text) p
-  between_wrong blank tabs l r semi n q =
-      steps.between_wrong reads (
-        ((((tt, no_blank blank tabs), hasn't 7 (semicolon_number b) (ne_eqb b 59 semi)), hasn't 8 (left_number b) (ne_eqb b 40 l)), hasn't 9 (right_number b) (ne_eqb b 41 r)),
-        no_start,
-      )
+  pub between_wrong : is_blank (class_of b) ≡ false → (b ≡ 40 → ⊥) → (b ≡ 41 → ⊥) → (b ≡ 59 → ⊥) → is_atom_chr b ≡ false → (b ≡ 34 → ⊥)
+      → between (drop p text) p ≡ wrong 1 (drop p text) p
+  between_wrong blank l r semi n q =
+      steps.between_wrong reads blank
+      ((((tt, hasn't 7 (semicolon_number b) (ne_eqb b 59 semi)), hasn't 8 (left_number b) (ne_eqb b 40 l)), hasn't 9 (right_number b) (ne_eqb b 41 r)), no_start)
     where
       no_start : OneOf (1 ∷ 3 ∷ []) k → ⊥
       no_start = ⊎_elim (hasn't 1 (quote_number b) (ne_eqb b 34 q)) (hasn't 3 (atom_number b) n)

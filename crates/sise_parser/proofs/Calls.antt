@@ -8,13 +8,17 @@ use native.Mathlib.Omega.{arith}
 use lib.Dec.{leb}
 use lib.ListN.{length, get_or}
 use borrow.Author.Tests.{leb-true, le-leb, ne_eqb}
+use Rattle.std.specs.Prelude.{Result}
 use Rattle.sise_util.proofs.Ranges.{and_first, and_second}
 use Rattle.sise_parser.specs.Refusals.{Refusal, refusal}
 use Rattle.sise_parser.specs.Lexer.{Lexed, bad}
 use Rattle.sise_parser.specs.Reader.{reader, lists_fit, is_sound, item, refused, next, refused_with, token_at, in_beginning, in_parsing, next_in, next_item, not_ended, ends_at, finish_in, finish_reading}
+use Rattle.sise_parser.specs.Meaning.{answer_as}
+use Rattle.sise_parser.specs.declared.error.ParseError.{ParseError}
 use Rattle.sise_parser.specs.declared.reader.Phase.{Phase}
 use Rattle.sise_parser.specs.declared.reader.Phase.TheVariants.{Beginning, Parsing, Finishing}
 use Rattle.sise_parser.specs.declared.reader.Reader.{Reader}
+use Rattle.sise_parser.specs.declared.reader.ParsedItem.{ParsedItem}
 use Rattle.sise_parser.specs.declared.reader.ParsedItem.TheVariants.{ListStart, ListEnd}
 use Rattle.sise_parser.proofs.ByteSteps.{between_open, between_close}
 
@@ -128,3 +132,7 @@ module _ (text : List ℕ) (r : Reader) where
     pub finish_token : r.phase ≡ Finishing → {x : Lexed} → x ≡ token_at text r → ends_at x ≡ finish_reading text r
     unfolding finish_in
     finish_token e d = ap ends_at d ∙ sym (sound_finish ∙ ap (λ (g : Phase). finish_in g text r) e)
+
+-- phase, lists and answer by a tuple that is known
+pub handed_back : {t u : Phase × ℕ × Result ParsedItem ParseError} (p : ℕ) → t ≡ u → next (reader p t.0 t.1) (answer_as t.2) ≡ next (reader p u.0 u.1) (answer_as u.2)
+handed_back p e = ap (λ (v : Phase × ℕ × Result ParsedItem ParseError). next (reader p v.0 v.1) (answer_as v.2)) e

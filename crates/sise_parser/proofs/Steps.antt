@@ -1,6 +1,7 @@
 -- The steps of the lexer's definition over a text: what each state says at a byte of a class, and at the end.
 -- Assumes nothing.
 use mathlib.Core.Path.{◌≡◌, refl, sym, ap, ◌∙◌}
+use mathlib.Core.Bool.{true, false, false≢true}
 use mathlib.Core.Logic.{inl, inr, ⊎_elim}
 use mathlib.Core.List.{List, [], ◌∷◌}
 use Prim.Native.Nat.{ℕ, ◌+◌, ◌-◌, ◌≤◌}
@@ -9,7 +10,7 @@ use types.Run.{OneOf}
 use Rattle.sise_util.specs.Classes.{Class, space, quote, tab, atom_chr, line_end, backslash, other, semicolon, left, right, printable, class_of, class_number}
 use Rattle.sise_util.proofs.Lists.{drop-next}
 use Rattle.sise_parser.specs.Lexer.{Lexed, found, eof, opening, closing, atom, unfinished, wrong, between, comment, plain, string, escape}
-use Rattle.sise_parser.specs.Plain.{skip_blanks, atom_run}
+use Rattle.sise_parser.specs.Plain.{is_blank, skip_blanks, atom_run}
 use Rattle.sise_parser.specs.Meaning.{Reads}
 
 -- what a `match` says of k in its last arm, `_`: it is none of the numbers of the other arms, the last of those first
@@ -91,10 +92,6 @@ module _ {text : List ℕ} {p k : ℕ} (r : Reads text p k) where
   refuse f n e = ap f here ∙ e ∙ ap (λ (m : List ℕ). wrong n m p) (sym here)
 
   -- between tokens
-  pub between_blank : OneOf (0 ∷ 2 ∷ 4 ∷ []) k → between (drop p text) p ≡ between l (p + 1)
-  unfolding between
-  between_blank n = at (λ (m : List ℕ). between m p) (⊎_elim (λ e. rw (is 0 e, between)) (⊎_elim (λ e. rw (is 2 e, between)) (λ e. rw (is 4 e, between))) n)
-
   pub between_semicolon : k ≡ 7 → between (drop p text) p ≡ comment l (p + 1)
   unfolding between
   between_semicolon n = at (λ (m : List ℕ). between m p) (rw (is 7 n, between))
@@ -115,16 +112,19 @@ module _ {text : List ℕ} {p k : ℕ} (r : Reads text p k) where
       again : OneOf (1 ∷ 3 ∷ []) k → between (b ∷ l) p ≡ plain (b ∷ l) p p
       again = ⊎_elim (λ e. rw (is 1 e, between, plain)) (λ e. rw (is 3 e, between, plain))
 
-  pub between_wrong : Rest ((1 ∷ 3 ∷ []) ∷ (9 ∷ []) ∷ (8 ∷ []) ∷ (7 ∷ []) ∷ (0 ∷ 2 ∷ 4 ∷ []) ∷ []) k → between (drop p text) p ≡ wrong 1 (drop p text) p
+  pub between_wrong : is_blank (class_of b) ≡ false → Rest ((1 ∷ 3 ∷ []) ∷ (9 ∷ []) ∷ (8 ∷ []) ∷ (7 ∷ []) ∷ []) k → between (drop p text) p ≡ wrong 1 (drop p text) p
   unfolding between class_number
-  between_wrong n = refuse (λ (m : List ℕ). between m p) 1 (go (class_of b) refl r.class)
+  between_wrong blank n = refuse (λ (m : List ℕ). between m p) 1 (go (class_of b) refl r.class)
     where
+      no_blank : {c : Class} → class_of b ≡ c → is_blank c ≡ true → ⊥
+      no_blank e y = false≢true (sym blank ∙ ap is_blank e ∙ y)
+
       go : (c : Class) → class_of b ≡ c → k ≡ class_number c → between (b ∷ l) p ≡ wrong 1 (b ∷ l) p
-      go space e m = absurd (n.0.0.0.0.1 (inl m))
+      go space e m = absurd (no_blank e refl)
       go quote e m = absurd (n.1 (inl m))
-      go tab e m = absurd (n.0.0.0.0.1 (inr (inl m)))
+      go tab e m = absurd (no_blank e refl)
       go atom_chr e m = absurd (n.1 (inr m))
-      go line_end e m = absurd (n.0.0.0.0.1 (inr (inr m)))
+      go line_end e m = absurd (no_blank e refl)
       go backslash e m = rw (e, between)
       go other e m = rw (e, between)
       go semicolon e m = absurd (n.0.0.0.1 m)
@@ -133,9 +133,12 @@ module _ {text : List ℕ} {p k : ℕ} (r : Reads text p k) where
       go printable e m = rw (e, between)
 
   -- in a comment
-  pub comment_line_end : k ≡ 4 → comment (drop p text) p ≡ between l (p + 1)
-  unfolding comment
-  comment_line_end n = at (λ (m : List ℕ). comment m p) (rw (is 4 n, comment))
+  -- a line end is passed as a blank, too
+  pub comment_line_end : k ≡ 4 → comment (drop p text) p ≡ between (drop p text) p
+  unfolding between comment
+  comment_line_end n =
+      let passed : between (b ∷ l) p ≡ between l (p + 1) = rw (is 4 n, between) in
+      at (λ (m : List ℕ). comment m p) (rw (is 4 n, comment)) ∙ sym (at (λ (m : List ℕ). between m p) passed)
 
   pub comment_wrong : k ≡ 6 → comment (drop p text) p ≡ wrong 3 (drop p text) p
   unfolding comment

@@ -11,8 +11,8 @@ use Rattle.sise_parser.specs.declared.reader.Next.{Next}
 use Rattle.sise_parser.specs.declared.lexer.Token.{Token}
 use Rattle.sise_parser.specs.declared.lexer.Token.TheVariants.{Eof, LeftParen, RightParen, Atom}
 use Rattle.sise_parser.specs.declared.lexer.Lexeme.{Lexeme}
-use Rattle.sise_parser.specs.declared.lexer.Place.{Place}
-use Rattle.sise_parser.specs.declared.lexer.Place.TheVariants.{Outside, InString, InComment}
+use Rattle.sise_parser.specs.declared.lexer.Context.{Context}
+use Rattle.sise_parser.specs.declared.lexer.Context.TheVariants.{Outside, InString, InComment}
 use Rattle.sise_parser.specs.declared.lexer.Wrong.{Wrong}
 
 abbrev pub token_as : Token → lexer.Token
@@ -32,10 +32,10 @@ lexed_as (Ok x) = lexeme_as x
 lexed_as (Err w) = wrong_as w
 
 -- where a wrong character stands, by the refusal's number
-abbrev pub place_number : Place → ℕ
-place_number Outside = 1
-place_number InString = 2
-place_number InComment = 3
+abbrev pub context_number : Context → ℕ
+context_number Outside = 1
+context_number InString = 2
+context_number InComment = 3
 
 -- what the end of a string means for an atom that began at s: the atom goes on after it, or is refused
 abbrev pub string_then : List ℕ → Result ℕ Wrong → ℕ → lexer.Lexed

@@ -63,7 +63,7 @@ impl RefusalNumbers {
     }
 }
 
-// What each type of refusals gives: the numbers of each refusal.
+// A type of refusals, which gives the numbers of each.
 pub trait Refusal: Copy {
     ghost meaning: { Self → Refusal };
 

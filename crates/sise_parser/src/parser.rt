@@ -1,4 +1,5 @@
-// The thin reader: a text and the reader's record in one struct, as the crate's Parser has them. Each call takes the struct apart and makes the record's.
+// The thin reader: a text and the reader's record in one struct, as the crate's Parser has them. Each call makes the call of that name
+// on the record.
 ghost use Rattle.std.specs.Prelude.{◌≡◌};
 ghost use Rattle.sise_parser.specs.Reader.{finish_reading};
 ghost use Rattle.sise_parser.specs.Meaning.{finished_as};
@@ -7,14 +8,14 @@ ghost use Rattle.sise_parser.specs.Parser.{parser_of, parsed_as, parsed_of};
 use crate::error::ParseError;
 use crate::reader::{ParsedItem, Reader};
 
-#[derive(Clone, Copy)]
+#[derive(Clone, Copy, Debug, PartialEq, Eq)]
 pub struct Parser<'a> {
     pub text: &'a [u8],
     pub reader: Reader,
 }
 
-// What next_item hands back: the parser for the next call, and the answer. A refusal has a parser too, so no Result can carry both.
-#[derive(Clone, Copy)]
+// What next_item hands back: the parser for the next call, and the answer. It is no Result, as Next is none; a refusal has a parser too.
+#[derive(Clone, Copy, Debug, PartialEq, Eq)]
 pub struct Parsed<'a> {
     pub parser: Parser<'a>,
     pub answer: Result<ParsedItem, ParseError>,

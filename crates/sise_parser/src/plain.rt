@@ -37,10 +37,7 @@ fn plain_at(text: &[u8], start: usize, lists: usize) -> Option<PlainItem>
     ensures when { IsSome result ↔ IsPlainAt text.now lists start }
     ensures item { IfSome result (λ p. next p.reader (answer_item p.item) ≡ in_parsing lists (between (drop start text.now) start)) }
 {
-    if text.len() <= start {
-        return None;
-    }
-    let byte = text[start];
+    let byte = *text.get(start)?;
     if byte == b'(' {
         let begun = ParsedItem::ListStart { pos: start };
         return Some(inside(start + 1, lists + 1, begun));
@@ -64,10 +61,7 @@ pub fn plain_item(text: &[u8], reader: Reader) -> Option<PlainItem>
     ensures when { IsSome result ↔ (is_sound (length text.now) reader ≡ true) × IsPlain text.now reader }
     ensures item { IfSome result (λ p. next p.reader (answer_item p.item) ≡ next_item text.now reader) }
 {
-    let Phase::Parsing = reader.phase else {
-        return None;
-    };
-    if !reader.is_sound(text.len()) {
+    if reader.phase != Phase::Parsing || !reader.is_sound(text.len()) {
         return None;
     }
     plain_at(text, skip_blanks(text, reader.position), reader.lists)

@@ -5,7 +5,7 @@ ghost use Rattle.sise_parser.specs.Phases.{ReadsPhase};
 ghost use Rattle.sise_parser.specs.Meaning.{lexeme_as, answer_as, next_as, finished_as};
 
 use crate::error::ParseError;
-use crate::lexer::{Lexeme, Token, get_token, skip_blanks};
+use crate::lexer::{Lexeme, Token, get_token};
 use crate::plain::plain_item;
 
 // Where the reader is in the text: before the first item, inside the outermost list, or after the last item.
@@ -26,6 +26,7 @@ impl TryFrom<u64> for Phase {
 
     ghost try_from_gives = { ReadsPhase };
 
+    // By a `match`: a search among the three phases for the one whose number it is would name them all too, and be no plainer.
     fn try_from(word: u64) -> Result<Phase, UnknownPhase> {
         match word {
             0 => Ok(Phase::Beginning),
@@ -52,7 +53,7 @@ pub enum ParsedItem {
     ListEnd { pos: usize },
 }
 
-// What next_item hands back: the record for the next call, and the item. A refusal has a record too, so no Result can carry both.
+// What next_item hands back: the record for the next call, and the item. It is no Result, since document 01 names this form; a refusal has a record too.
 #[derive(Clone, Copy, Debug, PartialEq, Eq)]
 pub struct Next {
     pub reader: Reader,
@@ -63,14 +64,10 @@ pub struct Next {
 fn lists_fit(phase: Phase, lists: usize) -> bool
     ensures { result ≡ lists_fit phase lists }
 {
-    match phase {
-        Phase::Parsing => 1 <= lists,
-        Phase::Beginning | Phase::Finishing => lists == 0,
-    }
+    (phase == Phase::Parsing) == (1 <= lists)
 }
 
-// What next_item hands back, from the record's parts. They are handed over one by one, as item_ahead has them: a struct would be made at each call and taken
-// apart here.
+// What next_item hands back, from the record's parts, which its callers have one by one.
 fn answered(
     position: usize,
     phase: Phase,
@@ -94,32 +91,21 @@ fn first_item(lists: usize, found: Lexeme) -> Next
     ensures { next_as result ≡ in_beginning lists (lexeme_as found) }
 {
     let pos = found.start;
-    match found.token {
-        Token::Eof => answered(
-            found.end,
+    let (phase, lists, answer) = match found.token {
+        Token::Eof => (
             Phase::Beginning,
             lists,
             Err(ParseError::UnexpectedEof { pos }),
         ),
-        Token::LeftParen => answered(
-            found.end,
-            Phase::Parsing,
-            1,
-            Ok(ParsedItem::ListStart { pos }),
-        ),
-        Token::RightParen => answered(
-            found.end,
+        Token::LeftParen => (Phase::Parsing, 1, Ok(ParsedItem::ListStart { pos })),
+        Token::RightParen => (
             Phase::Beginning,
             lists,
             Err(ParseError::UnexpectedRightParen { pos }),
         ),
-        Token::Atom(len) => answered(
-            found.end,
-            Phase::Finishing,
-            lists,
-            Ok(ParsedItem::Atom { pos, len }),
-        ),
-    }
+        Token::Atom(len) => (Phase::Finishing, lists, Ok(ParsedItem::Atom { pos, len })),
+    };
+    answered(found.end, phase, lists, answer)
 }
 
 // What a token gives inside the outermost list.
@@ -128,34 +114,18 @@ fn inner_item(lists: usize, found: Lexeme) -> Next
     ensures { next_as result ≡ in_parsing lists (lexeme_as found) }
 {
     let pos = found.start;
-    match found.token {
-        Token::Eof => answered(
-            found.end,
+    let (phase, lists, answer) = match found.token {
+        Token::Eof => (
             Phase::Parsing,
             lists,
             Err(ParseError::UnexpectedEof { pos }),
         ),
-        Token::LeftParen => answered(
-            found.end,
-            Phase::Parsing,
-            lists + 1,
-            Ok(ParsedItem::ListStart { pos }),
-        ),
-        Token::RightParen => {
-            let phase = if lists == 1 {
-                Phase::Finishing
-            } else {
-                Phase::Parsing
-            };
-            answered(found.end, phase, lists - 1, Ok(ParsedItem::ListEnd { pos }))
-        }
-        Token::Atom(len) => answered(
-            found.end,
-            Phase::Parsing,
-            lists,
-            Ok(ParsedItem::Atom { pos, len }),
-        ),
-    }
+        Token::LeftParen => (Phase::Parsing, lists + 1, Ok(ParsedItem::ListStart { pos })),
+        Token::RightParen if lists == 1 => (Phase::Finishing, 0, Ok(ParsedItem::ListEnd { pos })),
+        Token::RightParen => (Phase::Parsing, lists - 1, Ok(ParsedItem::ListEnd { pos })),
+        Token::Atom(len) => (Phase::Parsing, lists, Ok(ParsedItem::Atom { pos, len })),
+    };
+    answered(found.end, phase, lists, answer)
 }
 
 impl Reader {
@@ -212,9 +182,9 @@ impl Reader {
         if !self.is_sound(text.len()) {
             return Err(ParseError::UnsoundRecord);
         }
-        let Phase::Finishing = self.phase else {
+        if self.phase != Phase::Finishing {
             return Err(ParseError::ParsingNotFinished);
-        };
+        }
         let found = get_token(text, self.position)?;
         match found.token {
             Token::Eof => Ok(()),
@@ -223,7 +193,8 @@ impl Reader {
     }
 }
 
-// The bytes of an item's atom: that part of the text, or an empty part if the place and the length lie outside it.
+// The bytes of an item's atom: that part of the text, or an empty part if the place and the length lie outside it. Two steps and no `and_then` over them:
+// that was tried, and the proof did not close, since what the closure answers has no name in it.
 pub fn atom_bytes(text: &[u8], place: usize, len: usize) -> &[u8]
     ensures { result.now ≡ part_of text.now place len }
 {
@@ -233,8 +204,7 @@ pub fn atom_bytes(text: &[u8], place: usize, len: usize) -> &[u8]
     rest.get(..len).unwrap_or(&[])
 }
 
-// The next item of the text for a record of these parts, which are handed over one by one since that is faster than a struct. Blanks are passed by a loop
-// of their own: in get_token each would go through the match on a token's first byte.
+// The next item of the text for a record of these parts, which are handed over one by one since that is faster than a struct.
 // A loop over next_item seldom comes here: `#[cold]` says so to the compiler.
 #[cold]
 pub fn item_ahead(position: usize, phase: Phase, lists: usize, text: &[u8]) -> Next
@@ -248,13 +218,13 @@ pub fn item_ahead(position: usize, phase: Phase, lists: usize, text: &[u8]) -> N
     if !record.is_sound(text.len()) {
         return answered(position, phase, lists, Err(ParseError::UnsoundRecord));
     }
-    if let Phase::Finishing = phase {
+    if phase == Phase::Finishing {
         return answered(position, phase, lists, Err(ParseError::ParsingFinished));
     }
-    match get_token(text, skip_blanks(text, position)) {
+    match get_token(text, position) {
         Err(wrong) => answered(wrong.position, phase, lists, Err(wrong.error)),
         Ok(found) => {
-            if let Phase::Beginning = phase {
+            if phase == Phase::Beginning {
                 first_item(lists, found)
             } else {
                 inner_item(lists, found)

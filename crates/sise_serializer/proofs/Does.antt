@@ -12,7 +12,7 @@ use Rattle.sise_util.specs.Atom.{is_atom}
 use Rattle.sise_util.proofs.Ranges.{split}
 use Rattle.sise_serializer.specs.Serializer.{refused, error_number, DoesAs, is_sound, Style, refuse, place, first_atom, first_list, Gap, new_line, nothing, space, gap_at, laid, inner, inner_as, close, close_as, put_in, put_atom, begin_in, begin_list, end_in, end_list, finish_in, finish_writing}
 use Rattle.sise_serializer.specs.Calls.{Call, put_atom_call, begin_list_call, end_list_call, finish_call, step}
-use Rattle.sise_serializer.specs.Parts.{wrote_of, first_item, item_in, in_line, gap_bytes}
+use Rattle.sise_serializer.specs.Parts.{wrote_of, first_item, item_in, in_line}
 use Rattle.sise_serializer.specs.declared.serializer.Phase.{Phase}
 use Rattle.sise_serializer.specs.declared.serializer.Phase.TheVariants.{Beginning, Writing, Finished, Done}
 use Rattle.sise_serializer.specs.declared.serializer.Serializer.{Serializer}
@@ -48,19 +48,12 @@ module _ (s : Style) (w : Serializer) (token : List ℕ) (isList : Bool) (t : �
   pub new_line_is : t ≤ w.line_len → inner s w token isList t ≡ inner_as s w token isList new_line
   new_line_is h = inner_is (gap_new_line w t h)
 
-  pub nothing_is : gap_at w t ≡ nothing → inner s w token isList t ≡ in_line w token isList []
+  pub in_line_is : w.line_len < t → inner s w token isList t ≡ in_line w token isList
   unfolding inner_as laid in_line
-  nothing_is gap = inner_is gap ∙ rw (add-zero w.line_len, add-zero w.spaces)
-
-  pub space_is : gap_at w t ≡ space → inner s w token isList t ≡ in_line w token isList (32 ∷ [])
-  unfolding inner_as laid in_line
-  space_is gap = inner_is gap
-
-  pub in_line_is : w.line_len < t → inner s w token isList t ≡ in_line w token isList (gap_bytes w.list_beginning)
   in_line_is h =
       split w.list_beginning
-      (λ b. nothing_is (gap_nothing w t h b) ∙ ap (λ (g : Bool). in_line w token isList (gap_bytes g)) (sym b))
-      (λ b. space_is (gap_space w t h b) ∙ ap (λ (g : Bool). in_line w token isList (gap_bytes g)) (sym b))
+      (λ b. inner_is (gap_nothing w t h b) ∙ rw (b, add-zero w.line_len, add-zero w.spaces) refl)
+      (λ b. inner_is (gap_space w t h b) ∙ rw b refl)
 
 -- ---- the close of a list, by the test of the code
 
@@ -148,7 +141,7 @@ module _ (s : Style) (room : ℕ) (w : Serializer) (token : List ℕ) (isList : 
   unfolding item_in
   item_on_new_line h e = item_at h ∙ ap (place room w) (new_line_is s w token isList t e)
 
-  pub item_in_line : w.phase ≡ Writing → w.line_len < t → item_in w.phase s room w token isList t ≡ place room w (in_line w token isList (gap_bytes w.list_beginning))
+  pub item_in_line : w.phase ≡ Writing → w.line_len < t → item_in w.phase s room w token isList t ≡ place room w (in_line w token isList)
   unfolding item_in
   item_in_line h e = item_at h ∙ ap (place room w) (in_line_is s w token isList t e)
 

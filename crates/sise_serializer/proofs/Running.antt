@@ -8,7 +8,6 @@ use mathlib.Core.Path.{◌≡◌, refl, sym, ap, ◌∙◌, subst}
 use mathlib.Core.Bool.{Bool, true, false, cond}
 use mathlib.Core.List.{List, [], ◌∷◌, ◌++◌, map}
 use lib.Dec.{leb}
-use Rattle.std.specs.List.{IsSplitAt}
 use lib.ListN.{length, get_or, take, drop, set, length-set}
 use lib.Seq.{take-nil, take-suc-set, drop-set-lt, append_snoc}
 use Rattle.sise_serializer.specs.Bytes.{pasted}
@@ -31,10 +30,10 @@ decoded_short (a ∷ b ∷ c ∷ []) atoms h = refl
 decoded_short (a ∷ b ∷ c ∷ d ∷ l) atoms h = absurd (omega arith)
 
 -- four words in front
-pub decoded_four : (words p q atoms : List ℕ) → IsSplitAt words 4 p q
+pub decoded_four : (words p q atoms : List ℕ) → (p ≡ take 4 words) × (q ≡ drop 4 words) × (length q + 4 ≡ length words)
     → decoded words atoms ≡ cond (leb (get_or p 0 0) 4) (call_of atoms (get_or p 0 0) (get_or p 1 0) (get_or p 2 0) (get_or p 3 0) ∷ decoded q atoms) []
 unfolding decoded
-decoded_four words p q atoms h = four words h.0 ∙ rw (h.1, h.2) refl
+decoded_four words p q atoms h = four words (omega (arith, h.2)) ∙ rw (h.0, h.1) refl
   where
     four : (l : List ℕ) → 4 ≤ length l
         → decoded l atoms ≡ cond (leb (get_or (take 4 l) 0 0) 4) (call_of atoms (get_or (take 4 l) 0 0) (get_or (take 4 l) 1 0) (get_or (take 4 l) 2 0) (get_or (take 4 l) 3 0) ∷ decoded (drop 4 l) atoms) []

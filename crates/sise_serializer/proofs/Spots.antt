@@ -14,6 +14,11 @@ use Rattle.sise_serializer.specs.declared.serializer.WriteError.{WriteError}
 use Rattle.sise_serializer.specs.declared.serializer.WriteError.TheVariants.{NoRoom}
 use Rattle.sise_util.proofs.Ranges.{split}
 
+-- the error in place of None
+pub none_err : {A E : Type 0} {e f : E} (o : Option A) → ok_or o e ≡ Err f → e ≡ f
+none_err (Some x) h = absurd cc
+none_err None h = cc
+
 -- what is known of a token with a spot
 pub record Found (room at layout token : ℕ) (s : Spot) : Type 0 where
   pub in_room : at + layout + token ≤ room

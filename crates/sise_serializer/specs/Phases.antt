@@ -1,9 +1,16 @@
--- The words of the phases.
+-- The phases: which end the items, and their words.
 -- Assumes nothing.
-use Rattle.std.specs.Prelude.{ℕ, ◌≡◌, ◌<◌, Result, MatchResult}
+use Rattle.std.specs.Prelude.{ℕ, ◌≡◌, ◌<◌, Bool, true, false, Result, MatchResult}
 use Rattle.sise_serializer.specs.declared.serializer.Phase.{Phase}
 use Rattle.sise_serializer.specs.declared.serializer.Phase.TheVariants.{Beginning, Writing, Finished, Done}
 use Rattle.sise_parser.specs.declared.reader.UnknownPhase.{UnknownPhase}
+
+-- the phases after which no item may follow
+abbrev pub is_over : Phase → Bool
+is_over Beginning = false
+is_over Writing = false
+is_over Finished = true
+is_over Done = true
 
 -- a phase's number
 abbrev pub phase_word : Phase → ℕ

@@ -11,13 +11,23 @@ use crate::plan::Layout;
 pub const LIMIT: usize = 16777216;
 
 // The two strings that the caller lends for layout.
-#[derive(Clone, Copy)]
+#[derive(Clone, Copy, Debug, PartialEq, Eq)]
 pub struct SerializerStyle<'a> {
     pub line_break: &'a [u8],
     pub indentation: &'a [u8],
 }
 
 impl<'a> SerializerStyle<'a> {
+    // The style with these two strings.
+    pub fn new(line_break: &'a [u8], indentation: &'a [u8]) -> SerializerStyle<'a>
+        ensures { result ≡ record { line_break = line_break.entry; indentation = indentation.entry } }
+    {
+        SerializerStyle {
+            line_break,
+            indentation,
+        }
+    }
+
     // What ends a text: the line break, if wished.
     pub fn final_break(self, wished: bool) -> &'a [u8]
         ensures { result.now ≡ break_bytes wished self.entry.line_break.now }
@@ -26,7 +36,7 @@ impl<'a> SerializerStyle<'a> {
     }
 }
 
-// A token's place: its first byte and its end.
+// A token's place: its first byte and its end. A Range<usize> would have the same two numbers under other names, and be no shorter.
 #[derive(Clone, Copy, Debug, PartialEq, Eq)]
 pub struct Spot {
     pub at: usize,
@@ -40,7 +50,8 @@ fn has_room(left: usize, times: usize, size: usize) -> bool
     times.checked_mul(size).is_some_and(|bytes| bytes <= left)
 }
 
-// The spot of a token of `token` bytes behind `lead` bytes and `times` indentations, the whole beginning at `position` in a buffer of `room` bytes.
+// The spot of a token of `token` bytes behind `lead` bytes and `times` indentations, the whole beginning at `position` in a buffer of `room` bytes. `find`
+// alone calls it, with numbers of the record, the buffer, the layout, the style and the token: a struct of the six would be made there and read here at once.
 pub fn find_spot(
     position: usize,
     room: usize,
@@ -51,9 +62,11 @@ pub fn find_spot(
 ) -> Option<Spot>
     ensures { result ≡ spot_of room position (lead + times * indentation) token }
 {
-    let after = room.min(LIMIT).checked_sub(position)?;
-    let behind = after.checked_sub(lead)?;
-    let left = behind.checked_sub(token)?;
+    let left = room
+        .min(LIMIT)
+        .checked_sub(position)?
+        .checked_sub(lead)?
+        .checked_sub(token)?;
     if !has_room(left, times, indentation) {
         return None;
     }
@@ -64,9 +77,9 @@ pub fn find_spot(
     })
 }
 
-// Copies `src` to the bytes of `buf` that begin at `at`. One byte, as most line breaks are, needs no loop. The loop counts by hand: by copy_from_slice trees
-// are written more slowly (docs/DECISIONS.md). Here and in the functions below `buf` and `at` are no part `&mut buf[at..]`: the place `at` stands in the
-// definition (`pasted`), and callers go on with the whole buffer.
+// Copies `src` to the bytes of `buf` that begin at `at`. One byte, as most line breaks are, needs no loop. By copy_from_slice, a call of memmove for each
+// atom, a typical tree of 1 MB was written in 5.5 and not 4.3 ms (docs/DECISIONS.md). Here and in the functions below `buf` and `at` are no part
+// `&mut buf[at..]`: the definition `pasted` has the place, and `copies` and `write_line` would still count it.
 pub(crate) fn copy(buf: &mut [u8], at: usize, src: &[u8])
     requires { at + length src.now ≤ length buf.old }
     ensures { buf.new ≡ pasted buf.old at src.now }
@@ -75,10 +88,8 @@ pub(crate) fn copy(buf: &mut [u8], at: usize, src: &[u8])
         buf[at] = src[0];
         return;
     }
-    let mut i = 0;
-    while i < src.len() {
-        buf[at + i] = src[i];
-        i += 1;
+    for (i, &byte) in src.iter().enumerate() {
+        buf[at + i] = byte;
     }
 }
 
@@ -101,10 +112,8 @@ fn copies(buf: &mut [u8], at: usize, times: usize, src: &[u8])
         buf[at..end].fill(byte);
         return;
     }
-    let mut to = at;
-    for _ in 0..times {
-        copy(buf, to, src);
-        to += src.len();
+    for k in 0..times {
+        copy(buf, at + k * src.len(), src);
     }
 }
 
@@ -131,21 +140,22 @@ pub(crate) fn write_layout(buf: &mut [u8], at: usize, style: SerializerStyle<'_>
     }
 }
 
-// ---- for callers in other crates: bytes are copied where they have room, and nothing otherwise
+// ---- for callers in other crates: no public function has a `requires` (docs/CONTRIBUTING.md), so bytes are copied where they have room, and else nothing is
 
 // Copies `src` to the bytes of `buf` that begin at `at`.
 pub fn paste(buf: &mut [u8], at: usize, src: &[u8])
     ensures { buf.new ≡ pasted_if buf.old at src.now }
 {
-    let Some(left) = buf.len().checked_sub(at) else {
-        return;
-    };
-    if src.len() <= left {
+    if buf
+        .len()
+        .checked_sub(at)
+        .is_some_and(|left| src.len() <= left)
+    {
         copy(buf, at, src);
     }
 }
 
-// The space before an item that stays in its line, unless it joins what is before it.
+// Pastes the space before an item that stays in its line, unless it joins what is before it.
 pub fn write_gap(buf: &mut [u8], at: usize, joins: bool)
     ensures { buf.new ≡ pasted_if buf.old at (gap_bytes joins) }
 {
@@ -158,13 +168,9 @@ pub fn write_gap(buf: &mut [u8], at: usize, joins: bool)
 pub fn paste_line(buf: &mut [u8], at: usize, style: SerializerStyle<'_>, times: usize)
     ensures { buf.new ≡ pasted_if buf.old at (new_line_of (style_of style.entry) times) }
 {
-    let Some(behind) = buf.len().checked_sub(at) else {
-        return;
-    };
-    let Some(left) = behind.checked_sub(style.line_break.len()) else {
-        return;
-    };
-    if has_room(left, times, style.indentation.len()) {
+    let behind = buf.len().checked_sub(at);
+    let left = behind.and_then(|bytes| bytes.checked_sub(style.line_break.len()));
+    if left.is_some_and(|bytes| has_room(bytes, times, style.indentation.len())) {
         write_line(buf, at, style, times);
     }
 }

@@ -1,5 +1,5 @@
 // A whole list of the writer's calls, as numbers: four words a call, and one word for each answer.
-ghost use Rattle.std.specs.Prelude.{◌≡◌};
+ghost use Rattle.std.specs.Prelude.{◌≡◌, get_or};
 ghost use Rattle.sise_serializer.specs.Serializer.{style_of, answer_as};
 ghost use Rattle.sise_serializer.specs.Calls.{Does};
 ghost use Rattle.sise_serializer.specs.Parts.{Makes};
@@ -19,7 +19,7 @@ pub struct Ran {
     pub calls: usize,
 }
 
-// A call of a list.
+// A call of a list. An enum of its own: an Option or a Result has two cases, and not four.
 #[derive(Clone, Copy, Debug, PartialEq, Eq)]
 pub enum Call<'a> {
     PutAtom { atom: &'a [u8], break_line_at: u64 },
@@ -29,19 +29,13 @@ pub enum Call<'a> {
 }
 
 impl<'a> Call<'a> {
-    // The call that four words mean; none if the kind is above 4. Kinds are numbers here, since C writes them. The words and `atoms` stay two parameters:
-    // each turn takes four of the words away, and `atoms` stays whole.
+    // The call that four words mean; none if the kind is above 4. Kinds are numbers here, since C writes them.
     #[inline(always)]
     #[tactic(auto, unfolding(crate::specs::Words::call_of))]
-    fn of_words(
-        atoms: &'a [u8],
-        kind: u64,
-        place: u64,
-        len: u64,
-        break_line_at: u64,
-    ) -> Option<Call<'a>>
-        ensures { Decodes atoms.now kind place len break_line_at result }
+    fn of_words(four: [u64; 4], atoms: &'a [u8]) -> Option<Call<'a>>
+        ensures { Decodes atoms.now (get_or four 0 0) (get_or four 1 0) (get_or four 2 0) (get_or four 3 0) result }
     {
+        let [kind, place, len, break_line_at] = four;
         match kind {
             0 => {
                 let atom = atom_bytes(atoms, place as usize, len as usize);
@@ -63,17 +57,18 @@ impl<'a> Call<'a> {
     }
 }
 
-// The call that the first four words mean, and the words behind them. There is none where fewer are left, or where the first is no call's kind.
+// The call that the first four words mean, and the words behind them. There is none where fewer are left, or where the first is no call's kind. `words` and
+// `atoms` are no struct: C lends two arrays, and write_calls takes them as two parameters, in this order.
 #[inline(always)]
 pub fn next_call<'a, 'b>(words: &'b [u64], atoms: &'a [u8]) -> Option<(Call<'a>, &'b [u64])>
     ensures { ReadsCall words.now atoms.now result }
 {
-    let (four, behind) = words.split_at_checked(4)?;
-    let call = Call::of_words(atoms, four[0], four[1], four[2], four[3])?;
+    let (four, behind) = words.split_first_chunk::<4>()?;
+    let call = Call::of_words(*four, atoms)?;
     Some((call, behind))
 }
 
-// What the word of a refusal begins with: more than any offset.
+// What is added to a refusal's number in its word: more than any offset.
 pub const REFUSED: u64 = 4294967296;
 
 // An answer's word, since C reads it: the offset, or 2 ^ 32 and the refusal's number.
@@ -135,6 +130,7 @@ pub fn write_calls(
 
 // Runs the calls that the words mean, each with the record that the last one left, and writes the word of each answer at the call's index. Stops at a
 // kind above 4, at a rest of fewer than four words, and where no word is left for an answer. From an unsound record none runs.
+// `rest` is cut by next_call: with a zip over chunks of four the count behind the loop would be the smaller of two lengths, no plainer.
 pub fn write_calls_from(
     from: Serializer,
     words: &[u64],

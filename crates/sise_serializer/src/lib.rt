@@ -9,7 +9,7 @@ mod sound_serializer;
 mod token;
 
 pub use buffer::{LIMIT, SerializerStyle, Spot, find_spot, paste, paste_line, write_gap};
-pub use calls::{Call, Ran, next_call, put_word, write_calls, write_calls_from};
+pub use calls::{Call, REFUSED, Ran, next_call, put_word, write_calls, write_calls_from};
 pub use plan::{Layout, Planned};
 pub use serializer::{Phase, Placed, Serializer, WriteError, Wrote, phase_after};
 pub use sound_serializer::SoundSerializer;

@@ -1,15 +1,15 @@
 // A call planned in a buffer of so many bytes, with none written: the record behind it, and where its bytes go.
 ghost use Rattle.std.specs.Prelude.{◌≡◌, true, false, [], ◌∷◌, ◌+◌, ◌*◌, ◌<◌, length};
-ghost use Rattle.sise_serializer.specs.Serializer.{style_of, place, new_line, inner_as, close_as, last};
-ghost use Rattle.sise_serializer.specs.Calls.{step, end_list_call, finish_call};
-ghost use Rattle.sise_serializer.specs.Parts.{first_item, in_line, gap_bytes, spot_or_full};
-ghost use Rattle.sise_serializer.specs.Plan.{layout_bytes, PlansAs, PlansToken, PlansItem};
+ghost use Rattle.sise_serializer.specs.Serializer.{style_of, new_line, inner_as, close_as, last};
+ghost use Rattle.sise_serializer.specs.Calls.{end_list_call, finish_call};
+ghost use Rattle.sise_serializer.specs.Parts.{first_item, in_line, spot_or_full};
+ghost use Rattle.sise_serializer.specs.Plan.{layout_bytes, PlansCall, PlansPiece, PlansPieces, PlansItem};
 
 use crate::buffer::{SerializerStyle, Spot, find_spot};
 use crate::serializer::{Phase, Placed, Serializer, WriteError};
 use crate::sound_serializer::SoundSerializer;
 
-// What stands before a token: nothing, a space, or a line break and so many indentations.
+// What stands before a token: nothing, a space, or a line break and so many indentations. An enum of its own: an Option has two cases, and not three.
 #[derive(Clone, Copy, Debug, PartialEq, Eq)]
 pub enum Layout {
     Nothing,
@@ -50,11 +50,12 @@ impl Planned {
     }
 }
 
-// The six functions that `plan_item`, `plan_end` and `plan_finish` choose from have a frame in common: a layout, the spot, the record behind it. They stay six:
-// each is a case of the definition (`first_item`, `inner_as`, `in_line`, `close_as`, `last`), and one function would take from each its layout, the length of
-// its line and its `behind_..` as a closure, which are all that a case has. `style` and `room` are no struct: `room` is the length of the buffer, or the room
-// that a tree is measured in. An item is planned by `len` and `is_list`, and not by its token: the walk that measures a tree goes by lengths, and writes no
-// token.
+// The six functions that `plan_item`, `plan_end` and `plan_finish` choose from take the same steps: a layout, the spot, the record behind it. They stay six:
+// each is a case of the definition (`first_item`, `inner_as`, `in_line`, `close_as`, `last`). A function that took the record behind as a closure of the
+// spot's end would need what `find` promises of the spot as the closure's `requires`: without it the sums for the length of a line may wrap. `style` and
+// `room` are no struct: it would be made at each of the eight calls of `plan_item`, `plan_end` and `plan_finish`, and taken apart by `find` at once. An item is planned by `len` and `is_list`, and not by its token: the walk
+// that measures a tree goes by lengths, and writes no token. A phase that is over is an arm of each `match`, as in the definitions, and not asked for by
+// `is_over`.
 impl SoundSerializer {
     // The spot of a token of `len` bytes behind its layout, from the writer's position on.
     #[inline(always)]
@@ -89,12 +90,10 @@ impl SoundSerializer {
     {
         match self.serializer.phase {
             Phase::Beginning => self.plan_first(style, room, len, is_list),
-            Phase::Writing => {
-                if break_line_at <= self.serializer.line_len as u64 {
-                    return self.plan_on_new_line(style, room, len, is_list);
-                }
-                self.plan_in_line(style, room, len, is_list)
+            Phase::Writing if break_line_at <= self.serializer.line_len as u64 => {
+                self.plan_on_new_line(style, room, len, is_list)
             }
+            Phase::Writing => self.plan_in_line(style, room, len, is_list),
             Phase::Finished | Phase::Done => Err(WriteError::WritingFinished),
         }
     }
@@ -108,7 +107,7 @@ impl SoundSerializer {
         len: usize,
         is_list: bool,
     ) -> Result<Planned, WriteError>
-        ensures { PlansToken (style_of style.entry) room self.serializer len (λ token. place room self.serializer (first_item self.serializer token is_list)) result }
+        ensures { PlansPieces (style_of style.entry) room self.serializer len (λ token. first_item self.serializer token is_list) result }
     {
         let layout = Layout::Nothing;
         let spot = self.find(style, room, layout, len)?;
@@ -125,7 +124,7 @@ impl SoundSerializer {
         len: usize,
         is_list: bool,
     ) -> Result<Planned, WriteError>
-        ensures { PlansToken (style_of style.entry) room self.serializer len (λ token. place room self.serializer (inner_as (style_of style.entry) self.serializer token is_list new_line)) result }
+        ensures { PlansPieces (style_of style.entry) room self.serializer len (λ token. inner_as (style_of style.entry) self.serializer token is_list new_line) result }
     {
         let lists = self.serializer.lists;
         let layout = Layout::Line(lists);
@@ -144,7 +143,7 @@ impl SoundSerializer {
         len: usize,
         is_list: bool,
     ) -> Result<Planned, WriteError>
-        ensures { PlansToken (style_of style.entry) room self.serializer len (λ token. place room self.serializer (in_line self.serializer token is_list (gap_bytes self.serializer.list_beginning))) result }
+        ensures { PlansPieces (style_of style.entry) room self.serializer len (λ token. in_line self.serializer token is_list) result }
     {
         let w = self.serializer;
         let layout = if w.list_beginning {
@@ -158,19 +157,17 @@ impl SoundSerializer {
         Ok(Planned::new(serializer, spot.at, layout))
     }
 
-    // end_list.
+    // The end of the innermost list.
     #[inline(always)]
     pub fn plan_end(self, style: SerializerStyle<'_>, room: usize) -> Result<Planned, WriteError>
-        ensures { PlansAs (style_of style.entry) room self.serializer (41 ∷ []) (step (style_of style.entry) room self.serializer end_list_call) result }
+        ensures { PlansCall (style_of style.entry) room self.serializer (41 ∷ []) end_list_call result }
     {
         match self.serializer.phase {
             Phase::Beginning => Err(WriteError::NoListToEnd),
-            Phase::Writing => {
-                if self.serializer.broken == self.serializer.lists {
-                    return self.plan_end_on_new_line(style, room);
-                }
-                self.plan_end_in_line(style, room)
+            Phase::Writing if self.serializer.broken == self.serializer.lists => {
+                self.plan_end_on_new_line(style, room)
             }
+            Phase::Writing => self.plan_end_in_line(style, room),
             Phase::Finished | Phase::Done => Err(WriteError::WritingFinished),
         }
     }
@@ -184,7 +181,7 @@ impl SoundSerializer {
     ) -> Result<Planned, WriteError>
         requires open { 0 < self.serializer.lists }
         requires broken { self.serializer.broken ≡ self.serializer.lists }
-        ensures { PlansAs (style_of style.entry) room self.serializer (41 ∷ []) (place room self.serializer (close_as (style_of style.entry) self.serializer true)) result }
+        ensures { PlansPiece (style_of style.entry) room self.serializer (41 ∷ []) (close_as (style_of style.entry) self.serializer true) result }
     {
         let left = self.serializer.lists - 1;
         let layout = Layout::Line(left);
@@ -202,7 +199,7 @@ impl SoundSerializer {
         room: usize,
     ) -> Result<Planned, WriteError>
         requires { self.serializer.broken < self.serializer.lists }
-        ensures { PlansAs (style_of style.entry) room self.serializer (41 ∷ []) (place room self.serializer (close_as (style_of style.entry) self.serializer false)) result }
+        ensures { PlansPiece (style_of style.entry) room self.serializer (41 ∷ []) (close_as (style_of style.entry) self.serializer false) result }
     {
         let layout = Layout::Nothing;
         let spot = self.find(style, room, layout, 1)?;
@@ -210,7 +207,7 @@ impl SoundSerializer {
         Ok(Planned::new(serializer, spot.at, layout))
     }
 
-    // finish. The indentation is unused: every call takes the same style.
+    // The end of the text, with a line break if wished. The indentation is unused: every call takes the same style.
     #[inline(always)]
     pub fn plan_finish(
         self,
@@ -218,7 +215,7 @@ impl SoundSerializer {
         room: usize,
         insert_line_break: bool,
     ) -> Result<Planned, WriteError>
-        ensures { PlansAs (style_of style.entry) room self.serializer [] (step (style_of style.entry) room self.serializer (finish_call insert_line_break)) result }
+        ensures { PlansCall (style_of style.entry) room self.serializer [] (finish_call insert_line_break) result }
     {
         match self.serializer.phase {
             Phase::Beginning | Phase::Writing => Err(WriteError::WritingNotFinished),
@@ -227,7 +224,7 @@ impl SoundSerializer {
         }
     }
 
-    // The end of the text, with a line break if wished.
+    // The same of a text whose last item is written.
     #[inline(always)]
     fn plan_last(
         self,
@@ -235,7 +232,7 @@ impl SoundSerializer {
         room: usize,
         insert_line_break: bool,
     ) -> Result<Planned, WriteError>
-        ensures { PlansAs (style_of style.entry) room self.serializer [] (place room self.serializer (last (style_of style.entry) self.serializer insert_line_break)) result }
+        ensures { PlansPiece (style_of style.entry) room self.serializer [] (last (style_of style.entry) self.serializer insert_line_break) result }
     {
         let layout = if insert_line_break {
             Layout::Line(0)

@@ -1,13 +1,13 @@
 // The writer's record and its four calls. Each method goes on to `make_call`, which tests the record and runs the function below that wants a sound one; that
-// one plans the call, and writes only what has room. Those are made part of their callers, so that no record goes through memory between them.
+// one plans the call, and writes only what has room. Those, the plans and the records behind their steps are made part of their callers, so that no record goes
+// through memory between them.
 ghost use Rattle.std.specs.Prelude.{◌≡◌, false, ◌+◌, ◌≤◌, ◌++◌, length, MatchOption};
 ghost use Rattle.sise_serializer.specs.Bytes.{pasted};
 ghost use Rattle.sise_serializer.specs.Plan.{layout_bytes};
-ghost use Rattle.sise_util.specs.Atom.{is_atom};
 ghost use Rattle.sise_serializer.specs.Serializer.{fresh_serializer, style_of, lists_fit, last_break, is_sound, write_refusal, phase_after};
 ghost use Rattle.sise_serializer.specs.Calls.{Does, put_atom_call, begin_list_call, end_list_call, finish_call};
 ghost use Rattle.sise_serializer.specs.Parts.{wrote_of, Makes, PutsItem};
-ghost use Rattle.sise_serializer.specs.Phases.{DecodesPhase};
+ghost use Rattle.sise_serializer.specs.Phases.{is_over, DecodesPhase};
 
 use crate::buffer::{LIMIT, SerializerStyle, write_layout};
 use crate::calls::Call;
@@ -26,7 +26,16 @@ pub enum Phase {
     Done = 3,
 }
 
-// The phase with a number. The reader's phases have an impl of the same shape and other names and numbers.
+impl Phase {
+    // Whether no item may follow.
+    pub fn is_over(self) -> bool
+        ensures { result ≡ is_over self }
+    {
+        matches!(self, Phase::Finished | Phase::Done)
+    }
+}
+
+// The phase with a number, by a `match`, as the reader's phases are made of theirs: other names and numbers.
 impl TryFrom<u64> for Phase {
     type Error = UnknownPhase;
 
@@ -70,7 +79,8 @@ pub enum WriteError {
     NoRoom = 22,
 }
 
-// What a call hands back: the record, and the offset of what it wrote or why it is refused. A refusal has a record too, so no Result can carry both.
+// What a call hands back: the record, and the offset of what it wrote or why it is refused. It is no Result, since document 01 names this form: methods that
+// hand back record and answer.
 #[derive(Clone, Copy, Debug, PartialEq, Eq)]
 pub struct Wrote<E = WriteError> {
     pub serializer: Serializer,
@@ -84,6 +94,7 @@ pub struct Placed {
     pub offset: usize,
 }
 
+// `as` wants the enum itself: the same line stands in PathError of sise_tree and in WriteTreeError of sise_tree_writer.
 impl Refusal for WriteError {
     ghost meaning = { write_refusal };
 
@@ -96,10 +107,7 @@ impl Refusal for WriteError {
 fn lists_fit(phase: Phase, lists: usize) -> bool
     ensures { result ≡ lists_fit phase lists }
 {
-    match phase {
-        Phase::Writing => 1 <= lists,
-        Phase::Beginning | Phase::Finished | Phase::Done => lists == 0,
-    }
+    (phase == Phase::Writing) == (1 <= lists)
 }
 
 // finish's line break is counted too, and may be an empty string, so there may be one break more than bytes.
@@ -143,7 +151,7 @@ impl Serializer {
             && self.indents <= position * (position + 1)
     }
 
-    // The record with the knowledge that it is sound. By `then` it is no plainer: the closure would have to repeat the test as its `requires`.
+    // The record as a sound one, if it is. By `then` it is no plainer: the closure would have to repeat the test as its `requires`.
     pub fn sound(self) -> Option<SoundSerializer>
         ensures { MatchOption result (is_sound self ≡ false) (λ w. w.serializer ≡ self) }
     {
@@ -153,7 +161,8 @@ impl Serializer {
         None
     }
 
-    // The same record: `..self` copies the other fields one by one, and so leaves out the unused bytes behind the last, which a copy of the whole takes along.
+    // The same record: `..self` copies the other fields one by one, and so leaves out the unused bytes behind the last. A copy of the whole has them too, and a
+    // loop then keeps them in memory: a list of calls ran at 0.93 so, and at 1.17 times the crate's speed by fields (docs/DECISIONS.md).
     #[inline(always)]
     pub fn by_fields(self) -> Serializer
         ensures { result ≡ self }
@@ -227,7 +236,7 @@ impl Serializer {
     }
 }
 
-// Writes what a plan says from the writer's position on: its layout, and behind that its token.
+// Writes what a plan says from the writer's position on: its layout, and behind that its token. Hands back what the call leaves.
 #[inline(always)]
 fn put_planned<T: Token>(
     w: SoundSerializer,
@@ -235,26 +244,21 @@ fn put_planned<T: Token>(
     buf: &mut [u8],
     planned: Planned,
     token: T,
-)
+) -> Placed
     requires offset { planned.placed.offset ≡ w.serializer.position + length (layout_bytes (style_of style) planned.layout) }
     requires room { planned.placed.offset + length (T.bytes token) ≤ length buf.old }
-    ensures { buf.new ≡ pasted buf.old w.serializer.position (layout_bytes (style_of style.entry) planned.layout ++ T.bytes token) }
+    ensures placed { result ≡ planned.placed }
+    ensures bytes { buf.new ≡ pasted buf.old w.serializer.position (layout_bytes (style_of style.entry) planned.layout ++ T.bytes token) }
 {
     write_layout(buf, w.serializer.position, style, planned.layout);
     token.put(buf, planned.placed.offset);
+    planned.placed
 }
 
-// ---- put_atom and begin_list; w, style and buf are three parameters, since buf is lent to be written and the others are read: a struct of them is no plainer,
-// it would be made at each call and taken apart at once
+// ---- the calls on a sound record; w, style and buf are three parameters, since buf is lent to be written and the others are read: a struct of them is no
+// plainer, it would be made at each call and taken apart at once
 
-// Whether the bytes are an atom; of which kind does not matter here.
-fn is_atom(atom: &[u8]) -> bool
-    ensures { result ≡ is_atom atom.now }
-{
-    check_atom(atom).is_some()
-}
-
-// put_atom on a sound record: an item, if the bytes are an atom.
+// put_atom: an item, if the bytes are an atom; of which kind does not matter here.
 #[inline(always)]
 pub(crate) fn write_atom(
     w: SoundSerializer,
@@ -265,13 +269,11 @@ pub(crate) fn write_atom(
 ) -> Result<Placed, WriteError>
     ensures { Makes (put_atom_call atom.now break_line_at) (style_of style.entry) w.serializer buf.old result buf.new }
 {
-    if !is_atom(atom) {
-        return Err(WriteError::InvalidAtom);
-    }
+    check_atom(atom).ok_or(WriteError::InvalidAtom)?;
     write_item(w, style, buf, Atom(atom), break_line_at)
 }
 
-// begin_list on a sound record.
+// The beginning of a list.
 #[inline(always)]
 pub(crate) fn open_list(
     w: SoundSerializer,
@@ -302,11 +304,8 @@ fn write_item<T: Token>(
         token.is_list(),
         break_line_at,
     )?;
-    put_planned(w, style, buf, planned, token);
-    Ok(planned.placed)
+    Ok(put_planned(w, style, buf, planned, token))
 }
-
-// ---- end_list
 
 // The phase with so many lists left open after a close.
 pub fn phase_after(lists: usize) -> Phase
@@ -319,7 +318,7 @@ pub fn phase_after(lists: usize) -> Phase
     }
 }
 
-// end_list on a sound record.
+// The end of a list. It and finish_text are two lines each: another plan, another token; one function would take both as arguments.
 #[inline(always)]
 pub(crate) fn close_list(
     w: SoundSerializer,
@@ -329,13 +328,10 @@ pub(crate) fn close_list(
     ensures { Makes end_list_call (style_of style.entry) w.serializer buf.old result buf.new }
 {
     let planned = w.plan_end(style, buf.len())?;
-    put_planned(w, style, buf, planned, ListEnd);
-    Ok(planned.placed)
+    Ok(put_planned(w, style, buf, planned, ListEnd))
 }
 
-// ---- finish
-
-// finish on a sound record: it may write a line break, and no token.
+// finish: it may write a line break, and no token.
 #[inline(always)]
 pub(crate) fn finish_text(
     w: SoundSerializer,
@@ -346,6 +342,5 @@ pub(crate) fn finish_text(
     ensures { Makes (finish_call insert_line_break) (style_of style.entry) w.serializer buf.old result buf.new }
 {
     let planned = w.plan_finish(style, buf.len(), insert_line_break)?;
-    put_planned(w, style, buf, planned, NoBytes);
-    Ok(planned.placed)
+    Ok(put_planned(w, style, buf, planned, NoBytes))
 }

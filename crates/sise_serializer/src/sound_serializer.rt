@@ -1,12 +1,12 @@
 // A record whose counts lie in the bounds that every call keeps, so that no sum of a call wraps; and the record behind each step of a call, whose token ends at
-// `position`. Its methods are made part of their callers, so that no record goes through memory between them.
+// `position`.
 ghost use Rattle.std.specs.Prelude.{◌≡◌, true};
 ghost use Rattle.sise_serializer.specs.Serializer.{is_sound};
-ghost use Rattle.sise_serializer.specs.Plan.{behind_first, behind_new_line, behind_in_line, behind_end_on_new_line, behind_end_in_line, behind_finish};
+ghost use Rattle.sise_serializer.specs.Parts.{behind_first, behind_new_line, behind_in_line, behind_end_on_new_line, behind_end_in_line, behind_finish};
 
 use crate::serializer::{Phase, Serializer, phase_after};
 
-#[derive(Clone, Copy)]
+#[derive(Clone, Copy, Debug, PartialEq, Eq)]
 pub struct SoundSerializer {
     pub serializer: Serializer,
     ghost sound: { is_sound serializer ≡ true },
@@ -75,8 +75,7 @@ impl SoundSerializer {
         }
     }
 
-    // Behind a `)` on a new line of `line_len` bytes. Then a break is in every open list, and stays in those left. It and the next stay
-    // two functions: this one counts a break and indentations and sets `broken` and the line, the next only adds to the line.
+    // Behind a `)` on a new line of `line_len` bytes. Then a break is in every open list, and stays in those left.
     #[inline(always)]
     pub fn behind_end_on_new_line(self, position: usize, line_len: usize) -> Serializer
         ensures { result ≡ behind_end_on_new_line self.serializer position line_len }
@@ -84,15 +83,11 @@ impl SoundSerializer {
         let w = self.serializer;
         let left = w.lists.saturating_sub(1);
         Serializer {
-            position,
-            lists: left,
             broken: left,
             line_len,
             breaks: w.breaks + 1,
             indents: w.indents + left,
-            phase: phase_after(left),
-            list_beginning: false,
-            ..w
+            ..self.behind_end_in_line(position)
         }
     }
 

@@ -1,4 +1,4 @@
-// What a call puts behind its layout. Each call's steps are made for its token, so they have one caller, and the record stays in registers.
+// What a call puts behind its layout. Each call's steps are made for its token.
 ghost use Rattle.std.specs.Prelude.{◌≡◌, ℕ, Bool, true, false, List, [], ◌∷◌, ◌+◌, ◌≤◌, length};
 ghost use Rattle.sise_serializer.specs.Bytes.{pasted};
 
@@ -9,7 +9,7 @@ pub(crate) trait Token: Copy {
 
     ghost is_list: { Bool };
 
-    // Whether the item begins a list.
+    // Whether it begins a list. It is no constant of the trait: in an impl for a type with a lifetime, as Atom is, the check refuses one.
     fn is_list(self) -> bool
         ensures { result ≡ is_list };
 
@@ -45,7 +45,7 @@ impl<'a> Token for Atom<'a> {
     }
 }
 
-// A list begins with `(`.
+// A list begins with `(`. ListStart and ListEnd differ in a byte and in is_list: as names they say more than one type over the two would.
 #[derive(Clone, Copy)]
 pub(crate) struct ListStart;
 

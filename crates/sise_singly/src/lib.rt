@@ -10,8 +10,8 @@ ghost use Rattle.sise_singly.specs.Count.{count_items};
 use sise_parser::Reader;
 use sise_serializer::{Ran, Serializer, SerializerStyle, next_call, put_word};
 
-// How many items a reader of the text gives before its first refusal; a whole text is refused with 9 after its last item. The numbers of the `for` bound
-// the calls; the record goes from turn to turn, and there is no sequence of items for an iterator to go over.
+// How many items a reader of the text gives before its first refusal; a whole text is refused with 9 after its last item. The `for` counts the items and
+// bounds the calls, where a `loop` would count by hand. A text has no more items than bytes, so that the last line only ends the function.
 #[unsafe(no_mangle)]
 pub extern "C" fn sise_count_items(text: &[u8]) -> u64
     ensures { result ≡ count_items text.now }
@@ -28,7 +28,9 @@ pub extern "C" fn sise_count_items(text: &[u8]) -> u64
 }
 
 // Does what write_calls of sise_serializer does, with each call made by make_call, which tests the record, as a program does that makes the calls one at a
-// time. So the loop is that of write_calls_from with another call in it, and in that call lies what is measured.
+// time. So the loop is that of write_calls_from with another call in it. A loop for both would be a public function over a closure, and would have to require
+// of the closure that it makes each call as the definition says: no public function here requires anything.
+// `rest` is cut as there.
 fn run_calls(
     words: &[u64],
     atoms: &[u8],
@@ -70,10 +72,7 @@ pub extern "C" fn sise_write_calls_singly(
 ) -> u64
     ensures { WritesCalls (style line_break.now indentation.now) words.now atoms.now buf.old answers.old result buf.new answers.new }
 {
-    let style = SerializerStyle {
-        line_break,
-        indentation,
-    };
+    let style = SerializerStyle::new(line_break, indentation);
     let ran = run_calls(words, atoms, style, buf, answers);
     ran.serializer.position as u64
 }

@@ -44,7 +44,7 @@ module _ (text : List ℕ) (r₀ : Reader) where
 
   -- where it is known what the item makes of the open lists
   module _ {f : Frames} {r : Reader} {depth nodes : ℕ} (h : Counts text r₀ f r depth nodes) {q : Reader} {i : ParsedItem} (e : next_item text r ≡ next q (item i)) where
-    ends : {n : Node} {k : ℕ} → turn text f i ≡ whole n → k ≡ size n → DoesCount (read_node text r₀) (record { reader = q; answer = Ok k })
+    ends : {n : Node} {k : ℕ} → turn text f i ≡ whole n → k ≡ size n → DoesCount (read_node text r₀) q (Ok k)
     unfolding read_stage
     ends t z = let x = turned text r₀ h.stands e t in record { reader = ap reader_of x; answer = ap answers.answered z ∙ ap counted x }
 
@@ -57,7 +57,7 @@ module _ (text : List ℕ) (r₀ : Reader) where
 
     pub refused_ends :
         {q : Reader} {x : Refusal} {a : Result ℕ TreeError} → next_item text r ≡ next q (refused x) → parsed_as a ≡ answers.refused x
-        → DoesCount (read_node text r₀) (record { reader = q; answer = a })
+        → DoesCount (read_node text r₀) q a
     refused_ends e d =
         let z = sym (read_refused text r f e) ∙ h.stands.reads in
         record { reader = ap reader_of z; answer = d ∙ ap counted z }
@@ -67,7 +67,7 @@ module _ (text : List ℕ) (r₀ : Reader) where
     start_goes e = (f ▹ empty, goes h e refl (omega (arith, h.stands.deep)) (omega (arith, h.many)) (omega arith))
 
     module _ {q : Reader} {p n : ℕ} (e : next_item text r ≡ next q (item (Atom p n))) where
-      pub atom_ends : depth ≡ 0 → DoesCount (read_node text r₀) (record { reader = q; answer = Ok (nodes + 1) })
+      pub atom_ends : depth ≡ 0 → DoesCount (read_node text r₀) q (Ok (nodes + 1))
       unfolding turn size
       atom_ends z = let (t, none) = attach_out f (atom (kind_at text p n) p n) (sym h.stands.deep ∙ z) in ends h e t (omega (arith, h.many))
 
@@ -81,14 +81,14 @@ module _ (text : List ℕ) (r₀ : Reader) where
   -- a list's end leaves a node that is attached where its list began
   pub close_ends :
       {f : Frames} {r : Reader} {depth nodes : ℕ} → Counts text r₀ f r depth nodes → {q : Reader} {p : ℕ} → next_item text r ≡ next q (item (ListEnd p))
-      → depth ≡ 0 → DoesCount (read_node text r₀) (record { reader = q; answer = Err (UnexpectedListEnd p) })
+      → depth ≡ 0 → DoesCount (read_node text r₀) q (Err (UnexpectedListEnd p))
   unfolding turn close opened read_stage
   close_ends {f = top} h e z = let x = turned text r₀ h.stands e refl in record { reader = ap reader_of x; answer = ap counted x }
   close_ends {f = f ▹ c} h e z = absurd (omega (arith, h.stands.deep))
 
   pub list_ends :
       {f : Frames} {r : Reader} {depth nodes : ℕ} → Counts text r₀ f r depth nodes → {q : Reader} {p : ℕ} → next_item text r ≡ next q (item (ListEnd p))
-      → (depth ≡ 0 → ⊥) → depth - 1 ≡ 0 → DoesCount (read_node text r₀) (record { reader = q; answer = Ok nodes })
+      → (depth ≡ 0 → ⊥) → depth - 1 ≡ 0 → DoesCount (read_node text r₀) q (Ok nodes)
   unfolding turn close opened filled size
   list_ends {f = top} h e z o = absurd (z h.stands.deep)
   list_ends {f = f ▹ c} h e z o = let (t, none) = attach_out f (list c) (omega (arith, h.stands.deep)) in ends h e t (omega (arith, h.many))

@@ -12,7 +12,7 @@ use Rattle.sise_parser.specs.declared.reader.ParsedItem.{ParsedItem}
 use Rattle.sise_parser.specs.declared.reader.ParsedItem.TheVariants.{Atom, ListStart, ListEnd}
 use Rattle.sise_tree.specs.Tree.{kind_at, Node, atom, list, size}
 use Rattle.sise_tree.specs.ParseTree.{Frames, top, ◌▹◌, Stage, inside, closes, close, turn, ReadNode, got, read_stage, filled_with}
-use Rattle.sise_tree.specs.Filling.{opened, filled, innermost, render, filled_in, innermost_in, render_in, Shows, EndsAt, Fits, Fillable, Fills, DoesFill}
+use Rattle.sise_tree.specs.Filling.{opened, filled, innermost, render, filled_in, innermost_in, render_in, Shows, LiesIn, Fits, Fillable, Fills, DoesFill}
 use Rattle.sise_tree.specs.declared.parse.Mark.{Mark}
 use Rattle.sise_tree.proofs.ReadSteps.{Took, took, read_on, read_refused, node_in, stopped_got, stage_got, Leads, leads}
 use Rattle.sise_tree.proofs.ParseSteps.{inside_open, stands_none, turned, stands_on}
@@ -59,21 +59,20 @@ module _ (text w₀ : List ℕ) (r₀ : Reader) where
           (λ g t more. let z = ap filled_in t in omega (arith, leads text (grows text) (suc (length text)) g q more))
           (λ t z. let z = ap filled_in t in omega arith)
 
-      pub item_fits : Fits text (length words) f i q.position
+      pub item_fits : Fits text (length words) f i
       item_fits =
           record {
             due = due;
             room = omega (arith, small_size, k.room, h.same);
             small = omega (arith, small_size, k.short, at_most_bytes text r₀ k.reads);
-            ends = ends_at i (took text r e);
-            short = omega (arith, (took text r e).within, k.short);
-            inside = (took text r e).within;
+            lies = lies_in i (took text r e);
+            short = omega (arith, k.short);
           }
         where
-          ends_at : (j : ParsedItem) → Took text r q j → EndsAt q.position j
-          ends_at (Atom p n) t = t.leaves.0
-          ends_at (ListStart p) t = tt
-          ends_at (ListEnd p) t = tt
+          lies_in : (j : ParsedItem) → Took text r q j → LiesIn text j
+          lies_in (Atom p n) t = omega (arith, t.leaves.0, t.within)
+          lies_in (ListStart p) t = tt
+          lies_in (ListEnd p) t = tt
 
       module _ {now : List ℕ} {m' : Mark} (s : Shows w₀ (turn text f i) now m') where
         pub fill_ends : q.lists ≡ r₀.lists → DoesFill text r₀ w₀ now

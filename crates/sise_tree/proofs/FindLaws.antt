@@ -4,7 +4,7 @@
 use Prim.Native.Nat.{ℕ, zero, suc, ◌+◌, ◌-◌, ◌/◌, ◌≤◌, ◌<◌}
 use native.Mathlib.Numerals.{add-one}
 use native.Mathlib.Omega.{arith}
-use mathlib.Core.Path.{◌≡◌, refl, sym, ap, ◌∙◌}
+use mathlib.Core.Path.{◌≡◌, refl, ap, ◌∙◌}
 use mathlib.Core.Bool.{true, false}
 use mathlib.Core.List.{List, [], ◌∷◌}
 use lib.ListN.{length, get_or, drop, drop_of_length-le}
@@ -12,8 +12,6 @@ use lib.Seq.{drop-cons}
 use borrow.Author.Tests.{lt-ltb, le-ltb, ne_eqb}
 use Rattle.std.specs.Prelude.{Option, Some, None}
 use Rattle.sise_tree.specs.Tree.{kind, first, span}
-use Rattle.sise_tree.specs.declared.tree.NodeWords.{NodeWords}
-use Rattle.sise_tree.specs.NodeWords.{Words}
 use Rattle.sise_tree.specs.ParseTree.{longest}
 use Rattle.sise_tree.specs.FindPath.{Way, looks, stops, reads, passing, has_child, follow, found, refused, looked_up, find_path, past, Passes}
 
@@ -81,13 +79,13 @@ module _ {words : List ℕ} {i k at done : ℕ} (p : Passing words i k at done) 
         of zero z = absurd (omega arith)
         of (suc c) z = ap (looked_up (n + done)) (read_outside words _ h)
 
-    module _ {w : NodeWords} (its : Words words at w) where
-      pub passing_stop : w.span ≡ 0 → Passes words i k None
+    module _ (within : at < length words / 4) where
+      pub passing_stop : span words at ≡ 0 → Passes words i k None
       unfolding looked_up
       passing_stop z n on =
-          p.same n on ∙ ap (looked_up (n + done)) (passing_stuck words (k - done) on its.within (omega arith) (sym its.spans ∙ z))
+          p.same n on ∙ ap (looked_up (n + done)) (passing_stuck words (k - done) on within (omega arith) z)
 
-      pub passing_on : (w.span ≡ 0 → ⊥) → Passing words i k (at + w.span) (done + 1)
+      pub passing_on : (span words at ≡ 0 → ⊥) → Passing words i k (at + span words at) (done + 1)
       unfolding looked_up
       passing_on z =
           record {
@@ -96,8 +94,8 @@ module _ {words : List ℕ} {i k at done : ℕ} (p : Passing words i k at done) 
                 let less : k - (done + 1) ≡ k - done - 1 = omega arith in
                 let count : n + (done + 1) ≡ n + done + 1 = omega arith in
                 p.same n on
-                ∙ ap (looked_up (n + done)) (passing_one words (k - done) on its.within (omega arith) (λ (e : span words at ≡ 0). z (its.spans ∙ e)))
-                ∙ rw (its.spans, less, count) refl;
+                ∙ ap (looked_up (n + done)) (passing_one words (k - done) on within (omega arith) z)
+                ∙ rw (less, count) refl;
           }
 
 -- the code is to look at node `at` next, which is the last of `seen` nodes looked at, and has gone k steps of the path
@@ -120,14 +118,14 @@ module _ {words text path : List ℕ} {at seen k : ℕ} (g : Going words text pa
   unfolding looked_up
   going_outside h = g.same ∙ ap (looked_up (seen - 1)) (follow_outside words (drop k path) h)
 
-  module _ {w : NodeWords} (its : Words words at w) where
+  module _ (within : at < length words / 4) where
     pub going_found : length path ≤ k → find_path words text path ≡ found at seen
     unfolding follow looked_up
     going_found end =
         let z : seen - 1 + 1 ≡ seen = omega (arith, g.some) in
         g.same
         ∙ ap (λ (p : List ℕ). looked_up (seen - 1) (follow words at p)) (drop_of_length-le path end)
-        ∙ ap (looked_up (seen - 1)) (read_inside words _ its.within)
+        ∙ ap (looked_up (seen - 1)) (read_inside words _ within)
         ∙ ap (found at) z
 
     module _ (more : k < length path) where
@@ -139,24 +137,24 @@ module _ {words text path : List ℕ} {at seen k : ℕ} (g : Going words text pa
 
       none_there : has_child words at index ≡ false → find_path words text path ≡ refused 16
       unfolding looked_up
-      none_there e = onward ∙ ap (looked_up (seen - 1)) (follow_none words _ _ its.within e)
+      none_there e = onward ∙ ap (looked_up (seen - 1)) (follow_none words _ _ within e)
 
       -- it is an atom
-      pub going_atom : (w.kind ≡ 0 → ⊥) → find_path words text path ≡ refused 16
-      going_atom z = none_there (rw (ne_eqb (kind words at) 0 (λ (e : kind words at ≡ 0). z (its.kinds ∙ e))))
+      pub going_atom : (kind words at ≡ 0 → ⊥) → find_path words text path ≡ refused 16
+      going_atom z = none_there (rw (ne_eqb (kind words at) 0 z))
 
-      module _ (list : w.kind ≡ 0) where
+      module _ (list : kind words at ≡ 0) where
         -- it has too few children
-        pub going_none : w.first ≤ index → find_path words text path ≡ refused 16
-        going_none h = none_there (rw (sym its.kinds ∙ list, le-ltb index (first words at) (omega (arith, its.firsts, h))))
+        pub going_none : first words at ≤ index → find_path words text path ≡ refused 16
+        going_none h = none_there (rw (list, le-ltb index (first words at) h))
 
         -- r is the node behind the children before the one that the path leads to
-        module _ (h : index < w.first) where
+        module _ (h : index < first words at) where
           reached : (r : Option ℕ) → Passes words (at + 1) index r → find_path words text path ≡ past (seen - 1 + 1) index (λ j. follow words j (drop (k + 1) path)) r
           unfolding looked_up
           reached r p =
               onward
-              ∙ ap (looked_up (seen - 1)) (follow_child words _ _ its.within (rw (sym its.kinds ∙ list, lt-ltb index (first words at) (omega (arith, its.firsts, h)))))
+              ∙ ap (looked_up (seen - 1)) (follow_child words _ _ within (rw (list, lt-ltb index (first words at) h)))
               ∙ p (seen - 1 + 1) (λ j. follow words j (drop (k + 1) path))
 
           pub going_stop : {r : Option ℕ} → Passes words (at + 1) index r → r ≡ None → find_path words text path ≡ refused 15

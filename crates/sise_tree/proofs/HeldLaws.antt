@@ -1,7 +1,8 @@
 -- What a node says of what a table holds, by the tests of the code; and the whole by its nodes.
 -- Assumes nothing.
 use Rattle.std.specs.Prelude.{is_some, Ok, Err}
-use Prim.Native.Nat.{ℕ, ◌+◌, ◌/◌, ◌≤◌, ◌<◌}
+use Prim.Native.Nat.{ℕ, ◌+◌, ◌*◌, ◌/◌, ◌≤◌, ◌<◌}
+use native.Mathlib.Nat.{add-zero}
 use native.Mathlib.Omega.{arith}
 use mathlib.Core.Path.{◌≡◌, refl, sym, ap, ◌∙◌}
 use mathlib.Core.Bool.{Bool, true, false, cond, false≢true}
@@ -14,59 +15,65 @@ use Rattle.sise_util.specs.Atom.{kind_prefix}
 use Rattle.sise_util.proofs.Ranges.{split}
 use Rattle.sise_util.proofs.KindLaws.{kind_prefix_lem}
 use Rattle.sise_tree.specs.Tree.{Node, atoms_hold, kind, first, second, span, fits_kind, sits, fills_in, good, HoldsTree}
-use Rattle.sise_tree.specs.Parts.{good_in, atom_holds_at}
+use Rattle.sise_tree.specs.Parts.{atom_holds_at}
 use Rattle.sise_tree.specs.Decision.{decide, is_some as decided}
 use Rattle.sise_tree.specs.Held.{Held, held_if, held_as, is_tree}
-use Rattle.sise_tree.specs.declared.tree.TableError.{TableError}
 use Rattle.sise_tree.specs.declared.tree.TableError.TheVariants.{NotATree, NoAtom}
-use Rattle.sise_tree.proofs.LocalSteps.{good_outside, good_list, good_atom, good_long}
+use Rattle.sise_tree.proofs.LocalSteps.{good_list, good_atom, good_long}
+use Rattle.sise_tree.proofs.Shifts.{fills_in_lem}
 use Rattle.sise_tree.proofs.LocalLaws as local
 use Rattle.sise_tree.proofs.AtomsHold.{tree_all, tree_fails}
 
--- ---- the first node
+-- the two reasons are not one
+other_reason : {A : Type 0} → ◌≡◌ {A = Held} (Err NoAtom) (Err NotATree) → A
+other_reason e = let x : ◌≡◌ {A = ℕ} 0 1 = cc in absurd (omega arith)
 
-module _ (text words : List ℕ) where
+-- ---- a node
+
+module _ (text words : List ℕ) (i : ℕ) where
   abbrev here : Held
-  here = held_if (good_in text words 0) (atom_holds_at text words 0)
+  here = held_if (good text words i) (atom_holds_at text words i)
 
-  pub held_short : length words < 4 → Err NotATree ≡ here
-  held_short h = rw (good_outside text words 0 (omega arith))
+  -- its children fill its span, in the part of the table from it on
+  pub held_list : {b : Bool} → i < length words / 4 → kind words i ≡ 0 → b ≡ fills_in (drop (4 * i) words) 0 (first words i) 1 (span words i) → held_if b true ≡ here
+  unfolding atom_holds_at
+  held_list {b} within k e =
+      let its : b ≡ good text words i = e ∙ fills_in_lem words i within 0 (first words i) 1 (span words i) ∙ rw (add-zero i) (sym (good_list text words i k)) in
+      rw (its, eq-eqb (kind words i) 0 k) refl
 
-  module _ (within : 0 < length words / 4) where
-    pub held_list : {x s : ℕ} {b : Bool} → x ≡ first words 0 → s ≡ span words 0 → kind words 0 ≡ 0 → b ≡ fills_in words 0 x 1 s → held_if b true ≡ here
-    unfolding atom_holds_at
-    held_list {x} {s} ex es k e =
-        let end : 0 + s ≡ s = omega arith in
-        rw (good_list text words 0 within ex es k, end, ← e, eq-eqb (kind words 0) 0 k)
+  module _ (k : kind words i ≡ 0 → ⊥) where
+    pub held_long : (span words i ≡ 1 → ⊥) → Err NotATree ≡ here
+    held_long f = rw (good_long text words i k f)
 
-    module _ (k : kind words 0 ≡ 0 → ⊥) where
-      pub held_long : {s : ℕ} → s ≡ span words 0 → (s ≡ 1 → ⊥) → Err NotATree ≡ here
-      held_long es f = rw (good_long text words 0 within es k f)
+    module _ (one : span words i ≡ 1) where
+      pub held_past : length text < first words i + second words i → Err NotATree ≡ here
+      unfolding sits
+      held_past h = rw (good_atom text words i k one, lt-leb (first words i + second words i) (length text) h)
 
-      module _ {x y s : ℕ} (ex : x ≡ first words 0) (ey : y ≡ second words 0) (es : s ≡ span words 0) (one : s ≡ 1) where
-        pub held_past : length text < x + y → Err NotATree ≡ here
-        unfolding sits
-        held_past h = rw (good_atom text words 0 within ex ey es k one, lt-leb (x + y) (length text) h)
-
-        pub held_atom : x + y ≤ length text → held_if (fits_kind (kind_prefix (drop x text) y) (kind words 0)) (is_some (kind_prefix (drop x text) y)) ≡ here
-        unfolding sits atom_holds_at
-        held_atom h = rw (good_atom text words 0 within ex ey es k one, le-leb (x + y) (length text) h, ne_eqb (kind words 0) 0 k, ← ex, ← ey, kind_prefix_lem (drop x text) y)
+      pub held_atom :
+          first words i + second words i ≤ length text
+          → held_if (fits_kind (kind_prefix (drop (first words i) text) (second words i)) (kind words i)) (is_some (kind_prefix (drop (first words i) text) (second words i))) ≡ here
+      unfolding sits atom_holds_at
+      held_atom h =
+          rw (good_atom text words i k one, le-leb (first words i + second words i) (length text) h, ne_eqb (kind words i) 0 k, kind_prefix_lem (drop (first words i) text) (second words i))
 
 -- ---- the whole
 
 -- what a test of good and atoms says
-pub held_good : (g a : Bool) {h : Held} → h ≡ held_if g a → (h ≡ Err NotATree → ⊥) → g ≡ true
-held_good true a e f = refl
-held_good false a e f = absurd (f e)
+pub held_ok : (g a : Bool) {h : Held} → h ≡ held_if g a → h ≡ Ok tt → (g ≡ true) × (a ≡ true)
+held_ok true true e z = (refl, refl)
+held_ok true false e z = absurd (false≢true (ap is_tree (sym e ∙ z)))
+held_ok false a e z = absurd (false≢true (ap is_tree (sym e ∙ z)))
 
 pub held_bad : (g a : Bool) {h : Held} → h ≡ held_if g a → h ≡ Err NotATree → g ≡ false
-held_bad true true e z = let y : ◌≡◌ {A = Held} (Ok tt) (Err NotATree) = sym e ∙ z in let x : ◌≡◌ {A = ℕ} 0 1 = cc in absurd (omega arith)
-held_bad true false e z = let y : ◌≡◌ {A = Held} (Err NoAtom) (Err NotATree) = sym e ∙ z in let x : ◌≡◌ {A = ℕ} 0 1 = cc in absurd (omega arith)
+held_bad true true e z = absurd (false≢true (sym (ap is_tree (sym e ∙ z))))
+held_bad true false e z = other_reason (sym e ∙ z)
 held_bad false a e z = refl
 
-pub held_atoms : (g a : Bool) {h : Held} → h ≡ held_if g a → g ≡ true → is_tree h ≡ a
-held_atoms g true e z = ap is_tree (rw z at e)
-held_atoms g false e z = ap is_tree (rw z at e)
+pub held_flawed : (g a : Bool) {h : Held} → h ≡ held_if g a → h ≡ Err NoAtom → (g ≡ true) × (a ≡ false)
+held_flawed true true e z = absurd (false≢true (sym (ap is_tree (sym e ∙ z))))
+held_flawed true false e z = (refl, refl)
+held_flawed false a e z = other_reason (sym (sym e ∙ z))
 
 -- before each node: those passed are good, and whether each atom of them is one
 pub record Passed (text words : List ℕ) (i : ℕ) (h : Held) : Type 0 where
@@ -97,13 +104,12 @@ module _ {text words : List ℕ} {i : ℕ} {h : Held} (p : Passed text words i h
   }
 
   -- one that is none is why the whole is no tree of atoms
-  pub passed_flawed : atom_holds_at text words i ≡ false → {n : TableError} → (n ≡ NotATree → ⊥) → Passed text words (i + 1) (Err n)
-  passed_flawed e {n = NotATree} f = absurd (f refl)
-  passed_flawed e {n = NoAtom} f = record {
+  pub passed_flawed : atom_holds_at text words i ≡ false → Passed text words (i + 1) (Err NoAtom)
+  passed_flawed e = record {
     each = last p.each fine;
     atoms = λ t. absurd (false≢true t);
     fails = λ z. (i, omega arith, e);
-    tree = λ z. let y : ◌≡◌ {A = Held} (Err NoAtom) (Err NotATree) = z in let x : ◌≡◌ {A = ℕ} 0 1 = cc in omega arith;
+    tree = λ z. other_reason z;
   }
 
 module _ {text words : List ℕ} where
@@ -124,14 +130,6 @@ module _ {text words : List ℕ} where
       let (k, o, z) = p.fails refl in
       rw (d, tree_fails text words d k (omega arith) z)
   held_all {i} {h = Err NotATree} p s end begun = absurd (p.tree refl)
-
--- an answer that is no refusal is that of a tree of atoms; and the reason of a refusal is one
-pub no_error : {h : Held} → ((e : TableError) → h ≡ Err e → ⊥) → is_tree h ≡ true
-no_error {h = Ok tt} f = refl
-no_error {h = Err e} f = absurd (f e refl)
-
-pub same_error : {e f : TableError} → ◌≡◌ {A = Held} (Err e) (Err f) → e ≡ f
-same_error z = cc
 
 -- a tree or none, for a path
 pub some_held : (text : List ℕ) (d : Maybe Node) {h : Held} → h ≡ held_as text d → (h ≡ Err NotATree → ⊥) → decided d ≡ true

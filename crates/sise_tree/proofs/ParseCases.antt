@@ -46,25 +46,25 @@ module _ (text : List ℕ) (r : Reader) (words : List ℕ) where
         d
 
     -- a node was counted
-    module _ {x : TreeRead} {k : ℕ} (d : DoesCount (read_node text r) x) (a : x.answer ≡ Ok k) where
-      pub was_got : {C : Type 0} → ((n : Node) → read_node text r ≡ got n x.reader → k ≡ size n → C) → C
+    module _ {q : Reader} {x : Result ℕ TreeError} {k : ℕ} (d : DoesCount (read_node text r) q x) (a : x ≡ Ok k) where
+      pub was_got : {C : Type 0} → ((n : Node) → read_node text r ≡ got n q → k ≡ size n → C) → C
       was_got {C} j = go (read_node text r) refl
         where
           same : answered k ≡ counted (read_node text r)
           same = ap parsed_as (sym a) ∙ d.answer
 
           go : (y : ReadNode) → read_node text r ≡ y → C
-          go (got n q) e = j n (e ∙ ap (got n) (sym (d.reader ∙ ap reader_of e))) (ap number_in (same ∙ ap counted e))
-          go (stopped z q) e = absurd (false≢true (sym (ap is_answered (same ∙ ap counted e))))
+          go (got n p) e = j n (e ∙ ap (got n) (sym (d.reader ∙ ap reader_of e))) (ap number_in (same ∙ ap counted e))
+          go (stopped z p) e = absurd (false≢true (sym (ap is_answered (same ∙ ap counted e))))
 
-      by : {n : Node} (now : List ℕ) {y : TreeRead} → read_node text r ≡ got n x.reader → {b : Bool} → leb (size n) (length words / 4) ≡ b
-          → DoesParse (cond b (record { reader = x.reader; answer = answered (size n); words = filled_with n words }) (record { reader = r; answer = refused_with 14; words = words })) y now
+      by : {n : Node} (now : List ℕ) {y : TreeRead} → read_node text r ≡ got n q → {b : Bool} → leb (size n) (length words / 4) ≡ b
+          → DoesParse (cond b (record { reader = q; answer = answered (size n); words = filled_with n words }) (record { reader = r; answer = refused_with 14; words = words })) y now
           → DoesParse (parse_tree text r words) y now
       unfolding parsed
       by {n} now {y} e t h =
           short_parses
           (subst (λ (p : Parses). DoesParse p y now)
-          (sym (ap (parsed r words) e ∙ ap (λ (b : Bool). cond b (record { reader = x.reader; answer = answered (size n); words = filled_with n words }) (record { reader = r; answer = refused_with 14; words = words })) t))
+          (sym (ap (parsed r words) e ∙ ap (λ (b : Bool). cond b (record { reader = q; answer = answered (size n); words = filled_with n words }) (record { reader = r; answer = refused_with 14; words = words })) t))
           h)
 
       -- more than the table has
@@ -75,21 +75,23 @@ module _ (text : List ℕ) (r : Reader) (words : List ℕ) where
 
       module _ (u : k ≤ length words / 4) where
         pub parse_fillable : CanFill text r words
-        parse_fillable = was_got λ n e z. (n, x.reader, record { short = short; reads = e; room = subst (λ (m : ℕ). m ≤ length words / 4) z u })
+        parse_fillable = was_got λ n e z. (n, q, record { short = short; reads = e; room = subst (λ (m : ℕ). m ≤ length words / 4) z u })
 
-        pub parse_filled : {now : List ℕ} → DoesFill text r words now → DoesParse (parse_tree text r words) x now
+        pub parse_filled : {now : List ℕ} → DoesFill text r words now → DoesParse (parse_tree text r words) (record { reader = q; answer = Ok k }) now
         parse_filled {now} f =
             was_got λ n e z.
             by now e (le-leb (size n) (length words / 4) (subst (λ (m : ℕ). m ≤ length words / 4) z u))
-            (record { reader = refl; answer = ap parsed_as a ∙ ap answered z; words = f n x.reader e })
+            (record { reader = refl; answer = ap answered z; words = f n q e })
 
     -- none was
-    pub parse_stopped : {x : TreeRead} → DoesCount (read_node text r) x → ((n : ℕ) → x.answer ≡ Ok n → ⊥) → DoesParse (parse_tree text r words) x words
+    pub parse_stopped :
+        {q : Reader} {x : Result ℕ TreeError} → DoesCount (read_node text r) q x → ((n : ℕ) → x ≡ Ok n → ⊥)
+        → DoesParse (parse_tree text r words) (record { reader = q; answer = x }) words
     unfolding parsed
-    parse_stopped {x} d s = short_parses (go (read_node text r) refl)
+    parse_stopped {q} {x} d s = short_parses (go (read_node text r) refl)
       where
-        go : (y : ReadNode) → read_node text r ≡ y → DoesParse (parsed r words (read_node text r)) x words
-        go (got n q) e = absurd (false≢true (sym (not_nodes x.answer s) ∙ ap is_answered (d.answer ∙ ap counted e)))
-        go (stopped z q) e =
-            subst (λ (y : ReadNode). DoesParse (parsed r words y) x words) (sym e)
+        go : (y : ReadNode) → read_node text r ≡ y → DoesParse (parsed r words (read_node text r)) (record { reader = q; answer = x }) words
+        go (got n p) e = absurd (false≢true (sym (not_nodes x s) ∙ ap is_answered (d.answer ∙ ap counted e)))
+        go (stopped z p) e =
+            subst (λ (y : ReadNode). DoesParse (parsed r words y) (record { reader = q; answer = x }) words) (sym e)
             (record { reader = d.reader ∙ ap reader_of e; answer = d.answer ∙ ap counted e; words = refl })

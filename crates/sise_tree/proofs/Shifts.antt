@@ -65,7 +65,7 @@ module _ (words : List ℕ) (i : ℕ) where
         (λ h. rw h (le-leb e (length part / 4) (omega (arith, nodes_left, leb-true (i + e) (length words / 4) h))))
         (λ h. rw h (lt-leb e (length part / 4) (omega (arith, nodes_left, within, leb-false (i + e) (length words / 4) h))))
 
-    fills_in_lem : (p c j e : ℕ) → fills_in part p c j e ≡ fills_in words (i + p) c (i + j) (i + e)
+    pub fills_in_lem : (p c j e : ℕ) → fills_in part p c j e ≡ fills_in words (i + p) c (i + j) (i + e)
     unfolding fills_in
     fills_in_lem p c j e = rw (leb_left e, fills_at p c j e)
 

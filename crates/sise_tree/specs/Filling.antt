@@ -1,6 +1,6 @@
 -- What the private functions of parse_tree do: the node that is due is counted, and then filled into the table, item after item.
 -- Assumes nothing.
-use Rattle.std.specs.Prelude.{ℕ, suc, ◌+◌, ◌-◌, ◌*◌, ◌/◌, ◌^◌, ◌≤◌, ◌<◌, ◌≡◌, true, List, [], ◌∷◌, ◌++◌, length, take, drop}
+use Rattle.std.specs.Prelude.{ℕ, suc, ◌+◌, ◌*◌, ◌/◌, ◌^◌, ◌≤◌, ◌<◌, ◌≡◌, true, Result, List, [], ◌∷◌, ◌++◌, length, take, drop}
 use Rattle.sise_parser.specs.Reader as reader
 use Rattle.sise_parser.specs.declared.reader.Reader.{Reader}
 use Rattle.sise_parser.specs.declared.reader.ParsedItem.{ParsedItem}
@@ -8,7 +8,7 @@ use Rattle.sise_parser.specs.declared.reader.ParsedItem.TheVariants.{Atom, ListS
 use Rattle.sise_tree.specs.Tree.{Node, list, Nodes, size, sizes, children, kind_at, table_at, table, tables}
 use Rattle.sise_tree.specs.Answers.{Answer, answered, refused, parsed_as}
 use Rattle.sise_tree.specs.ParseTree.{longest, Frames, top, ◌▹◌, Stage, inside, whole, closes, attach, turn, ReadNode, got, stopped, read_from, read_node, filled_with}
-use Rattle.sise_tree.specs.declared.parse.TreeRead.{TreeRead}
+use Rattle.sise_tree.specs.declared.parse.TreeError.{TreeError}
 use Rattle.sise_tree.specs.declared.parse.Mark.{Mark}
 
 -- ---- counting
@@ -18,13 +18,15 @@ abbrev pub counted : ReadNode → Answer
 counted (got n q) = answered (size n)
 counted (stopped e q) = refused e
 
+-- the record that it leaves
 abbrev pub reader_of : ReadNode → Reader
 reader_of (got n q) = q
 reader_of (stopped e q) = q
 
-pub record DoesCount (d : ReadNode) (r : TreeRead) : Type 0 where
-  pub reader : r.reader ≡ reader_of d
-  pub answer : parsed_as r.answer ≡ counted d
+-- a reading that left the record q and answered r does as d says
+pub record DoesCount (d : ReadNode) (q : Reader) (r : Result ℕ TreeError) : Type 0 where
+  pub reader : q ≡ reader_of d
+  pub answer : parsed_as r ≡ counted d
 
 -- the lists that are open, and the nodes so far
 unfoldable pub opened : Frames → ℕ
@@ -119,40 +121,39 @@ pub record Shows (w₀ : List ℕ) (s : Stage) (words : List ℕ) (m : Mark) : T
   pub nexts : m.next ≡ filled_in s
   pub parents : m.parent ≡ innermost_in s
 
--- an atom ends at e
-abbrev pub EndsAt : ℕ → ParsedItem → Type 0
-EndsAt e (Atom p n) = p + n ≡ e
-EndsAt e (ListStart p) = Unit {0}
-EndsAt e (ListEnd p) = Unit {0}
+-- an atom lies in the text
+abbrev pub LiesIn : List ℕ → ParsedItem → Type 0
+LiesIn text (Atom p n) = p + n ≤ length text
+LiesIn text (ListStart p) = Unit {0}
+LiesIn text (ListEnd p) = Unit {0}
 
--- an item, behind which the reader is at e, is one that may come, and what it leads to has room in n words of 32 bits
-pub record Fits (text : List ℕ) (n : ℕ) (f : Frames) (i : ParsedItem) (e : ℕ) : Type 0 where
+-- an item is one that may come, and what it leads to has room in n words of 32 bits
+pub record Fits (text : List ℕ) (n : ℕ) (f : Frames) (i : ParsedItem) : Type 0 where
   pub due : (p : ℕ) → turn text f i ≡ closes p → ⊥
   pub room : filled_in (turn text f i) ≤ n / 4
   pub small : filled_in (turn text f i) + 1 < 2 ^ 32
-  pub ends : EndsAt e i
-  pub short : e < 2 ^ 32
-  pub inside : e ≤ length text
+  pub lies : LiesIn text i
+  pub short : length text < 2 ^ 32
 
-abbrev pub CanTurn : List ℕ → List ℕ → Mark → ParsedItem → ℕ → Type 0
-CanTurn text words m i e = (w₀ : List ℕ) × (f : Frames) × Shows w₀ (inside f) words m × Fits text (length words) f i e
+abbrev pub CanTurn : List ℕ → List ℕ → Mark → ParsedItem → Type 0
+CanTurn text words m i = (w₀ : List ℕ) × (f : Frames) × Shows w₀ (inside f) words m × Fits text (length words) f i
 
-abbrev pub Turns : List ℕ → List ℕ → Mark → ParsedItem → ℕ → Mark → List ℕ → Type 0
-Turns text words m i e r now = (w₀ : List ℕ) (f : Frames) → Shows w₀ (inside f) words m → Fits text (length words) f i e → Shows w₀ (turn text f i) now r
+abbrev pub Turns : List ℕ → List ℕ → Mark → ParsedItem → Mark → List ℕ → Type 0
+Turns text words m i r now = (w₀ : List ℕ) (f : Frames) → Shows w₀ (inside f) words m → Fits text (length words) f i → Shows w₀ (turn text f i) now r
 
 -- an atom's turn over a text where its kind has that number
 abbrev pub CanPut : List ℕ → Mark → ℕ → ℕ → ℕ → Type 0
-CanPut words m k p e = (text : List ℕ) × (k ≡ kind_at text p (e - p)) × CanTurn text words m (Atom p (e - p)) e
+CanPut words m k p n = (text : List ℕ) × (k ≡ kind_at text p n) × CanTurn text words m (Atom p n)
 
 abbrev pub Puts : List ℕ → Mark → ℕ → ℕ → ℕ → Mark → List ℕ → Type 0
-Puts words m k p e r now = (text : List ℕ) → k ≡ kind_at text p (e - p) → Turns text words m (Atom p (e - p)) e r now
+Puts words m k p n r now = (text : List ℕ) → k ≡ kind_at text p n → Turns text words m (Atom p n) r now
 
 -- a list's start, wherever it stands
 abbrev pub CanStart : List ℕ → Mark → Type 0
-CanStart words m = (text : List ℕ) × (p : ℕ) × (e : ℕ) × CanTurn text words m (ListStart p) e
+CanStart words m = (text : List ℕ) × (p : ℕ) × CanTurn text words m (ListStart p)
 
 abbrev pub Starts : List ℕ → Mark → Mark → List ℕ → Type 0
-Starts words m r now = (text : List ℕ) (p e : ℕ) → Turns text words m (ListStart p) e r now
+Starts words m r now = (text : List ℕ) (p : ℕ) → Turns text words m (ListStart p) r now
 
 -- the node that is due is known to be one, and to have room
 pub record Fillable (text : List ℕ) (r : Reader) (words : List ℕ) (n : Node) (q : Reader) : Type 0 where

@@ -1,12 +1,13 @@
 // A node of a text, read into a lent table.
-ghost use Rattle.std.specs.Prelude.{◌≡◌, ◌≤◌, ◌<◌, ◌+◌, ◌-◌, ◌/◌, length};
+ghost use Rattle.std.specs.Prelude.{◌≡◌, ◌≤◌, ◌<◌, ◌/◌, length};
 ghost use Rattle.sise_tree.specs.Tree.{kind_at};
 ghost use Rattle.sise_tree.specs.Answers.{tree_refusal};
 ghost use Rattle.sise_tree.specs.declared.parse.TreeError.TheVariants.{Refused};
 ghost use Rattle.sise_tree.specs.ParseTree.{read_node, parse_tree, DoesParse};
-ghost use Rattle.sise_tree.specs.Filling.{DoesCount, put_at, CanAttach, Attaches, CanClose, Closes, CanPut, Puts, CanTurn, Turns, CanStart, Starts, CanFill, DoesFill};
+ghost use Rattle.sise_tree.specs.Filling.{DoesCount, put_at, CanAttach, Attaches, CanClose, Closes, CanPut, Puts};
+ghost use Rattle.sise_tree.specs.Filling.{CanTurn, Turns, CanStart, Starts, CanFill, DoesFill};
 
-use crate::tree::{LONGEST, NodeWords, wide};
+use crate::tree::{LONGEST, NodeWords, wide, words_of};
 use sise_parser::{ParseError, ParsedItem, Reader, Refusal, RefusalNumbers};
 use sise_util::{check_atom_prefix, kind_number};
 
@@ -32,6 +33,7 @@ impl From<ParseError> for TreeError {
 impl Refusal for TreeError {
     ghost meaning = { tree_refusal };
 
+    // By a `match`, as ParseError's: two cases carry values, so `as` is refused.
     fn numbers(self) -> RefusalNumbers {
         match self {
             TreeError::Refused(error) => error.numbers(),
@@ -49,48 +51,37 @@ pub struct TreeRead {
     pub answer: Result<usize, TreeError>,
 }
 
-// Reads the node that is due and counts its nodes. The loop asks for items until one ends the node. No iterator over the reader, since the record behind the
-// last item is handed back, on a refusal too, and an iterator keeps it to itself. The loop of fill_nodes keeps other things from turn to turn, and ends by
-// another test.
-pub(crate) fn count_nodes(text: &[u8], reader: Reader) -> TreeRead
-    ensures { DoesCount (read_node text.now reader) result }
+// Reads the node that is due and counts its nodes. The record is left behind the node, or behind what is refused. Items are asked for until one ends the node:
+// an iterator of them would give each as a Result and keep the record, which is wanted behind the loop: a struct, an impl and its three ghost parts for the
+// two lines that begin this loop and that of fill_nodes. No plainer.
+pub(crate) fn count_nodes(text: &[u8], reader: &mut Reader) -> Result<usize, TreeError>
+    ensures { DoesCount (read_node text.now reader.old) reader.new result }
 {
-    let mut r = reader;
     let mut depth: usize = 0;
     let mut nodes: usize = 0;
-    let answer = loop {
-        let next = r.next_item(text);
-        r = next.reader;
-        let item = match next.answer {
-            Ok(item) => item,
-            Err(error) => break Err(error.into()),
-        };
-        match item {
-            ParsedItem::Atom { .. } => {
-                nodes += 1;
-                if depth == 0 {
-                    break Ok(nodes);
-                }
-            }
+    loop {
+        let next = reader.next_item(text);
+        *reader = next.reader;
+        match next.answer? {
+            ParsedItem::Atom { .. } => nodes += 1,
             ParsedItem::ListStart { .. } => {
                 nodes += 1;
                 depth += 1;
             }
             ParsedItem::ListEnd { pos } => {
                 if depth == 0 {
-                    break Err(TreeError::UnexpectedListEnd { pos });
+                    return Err(TreeError::UnexpectedListEnd { pos });
                 }
                 depth -= 1;
-                if depth == 0 {
-                    break Ok(nodes);
-                }
             }
         }
-    };
-    TreeRead { reader: r, answer }
+        if depth == 0 {
+            return Ok(nodes);
+        }
+    }
 }
 
-// Node `i`'s words become these.
+// The words of node `i`, for which the caller knows that there is room, become these, by one copy, as put_at puts them in.
 fn put(table: &mut [u32], i: usize, node: NodeWords)
     requires { i < length table.old / 4 }
     ensures { table.new ≡ put_at table.old i node.kind node.first node.second node.span }
@@ -99,16 +90,18 @@ fn put(table: &mut [u32], i: usize, node: NodeWords)
     table[4 * i..4 * i + 4].copy_from_slice(&words);
 }
 
-// The first word of the atom from `pos` to `end`.
-fn kind_at(text: &[u8], pos: usize, end: usize) -> u32
-    requires { (pos ≤ end) × (end ≤ length text.now) }
-    ensures { result ≡ kind_at text.now pos (end - pos) }
+// The first word of the atom at `pos`, of `len` bytes.
+fn kind_at(text: &[u8], pos: usize, len: usize) -> u32
+    requires { pos ≤ length text.now }
+    ensures { result ≡ kind_at text.now pos len }
 {
-    kind_number(check_atom_prefix(&text[pos..], end - pos))
+    kind_number(check_atom_prefix(&text[pos..], len))
 }
 
 // Where the filling stands: the index of the next node, and that of the innermost open list. Before the root, where none is open, both are 0: document 02 gives
-// the root the distance 0, so the difference of the two is its third word, as it is any other list's. An Option would be asked at each node.
+// the root the distance 0, so the difference of the two is its third word, as it is any other list's. An Option would be asked at each node. The table is lent
+// beside the mark, and is no field of it: a `&mut self` that holds a `&mut` has a before and an after twice, and the clauses would say of both what they say of
+// the table.
 #[derive(Clone, Copy)]
 struct Mark {
     next: u32,
@@ -116,7 +109,7 @@ struct Mark {
 }
 
 impl Mark {
-    // The list `parent` has one child more, the node `next`; the root is no child.
+    // The list `parent` has one child more, the node `next`, and counts it in its second word; the root is no child.
     fn count_child(self, table: &mut [u32])
         requires { CanAttach table.old self.parent self.next }
         ensures { Attaches table.old self.parent self.next table.new }
@@ -125,18 +118,18 @@ impl Mark {
             return;
         }
         let i = wide(self.parent);
-        let count = table[4 * i + 1];
-        table[4 * i + 1] = count + 1;
+        table[4 * i + 1] += 1;
     }
 
-    // The list `parent` ends before the node `next`. Its own parent, to which its third word leads back, is the innermost open list then, and counts it.
+    // The list `parent` ends before the node `next`, and gets its fourth word. Its own parent, at the distance of its third word, is the innermost open list
+    // then, and counts it.
     fn close_list(self, table: &mut [u32]) -> Mark
         requires { CanClose table.old self.next self.parent }
         ensures same { result.next ≡ self.next }
         ensures closes { Closes table.old self.next self.parent result.parent table.new }
     {
         let i = wide(self.parent);
-        let parent = self.parent - table[4 * i + 2];
+        let parent = self.parent - words_of(table, i).second;
         table[4 * i + 3] = self.next - self.parent;
         // The closed list counts as a child where it stands itself.
         let list = Mark {
@@ -147,15 +140,15 @@ impl Mark {
         Mark { parent, ..self }
     }
 
-    // An atom from `pos` to `end` is written with its kind, and counted as a child.
-    fn put_atom(self, table: &mut [u32], kind: u32, pos: usize, end: usize) -> Mark
-        requires { CanPut table.old self kind pos end }
-        ensures { Puts table.old self kind pos end result table.new }
+    // An atom at `pos`, of `len` bytes, is written with its kind, and counted as a child.
+    fn put_atom(self, table: &mut [u32], kind: u32, pos: usize, len: usize) -> Mark
+        requires { CanPut table.old self kind pos len }
+        ensures { Puts table.old self kind pos len result table.new }
     {
         let node = NodeWords {
             kind,
             first: pos as u32,
-            second: (end - pos) as u32,
+            second: len as u32,
             span: 1,
         };
         put(table, wide(self.next), node);
@@ -184,37 +177,40 @@ impl Mark {
         }
     }
 
-    // The item that next_item gave is written; `end` is where the reader stands behind it, from which an atom's length is worked out.
-    fn put_item(self, text: &[u8], table: &mut [u32], item: ParsedItem, end: usize) -> Mark
-        requires { CanTurn text.now table.old self item end }
-        ensures { Turns text.now table.old self item end result table.new }
+    // The item that next_item gave is written.
+    fn put_item(self, text: &[u8], table: &mut [u32], item: ParsedItem) -> Mark
+        requires { CanTurn text.now table.old self item }
+        ensures { Turns text.now table.old self item result table.new }
     {
         match item {
-            ParsedItem::Atom { pos, .. } => {
-                let kind = kind_at(text, pos, end);
-                self.put_atom(table, kind, pos, end)
-            }
+            ParsedItem::Atom { pos, len } => self.put_atom(
+                table,
+                kind_at(text, pos, len),
+                pos,
+                len,
+            ),
             ParsedItem::ListStart { .. } => self.put_start(table),
             ParsedItem::ListEnd { .. } => self.close_list(table),
         }
     }
 }
 
-// Reads a node again, which is known to be one and to have room, and writes its words.
-pub(crate) fn fill_nodes(text: &[u8], reader: Reader, table: &mut [u32])
+// Reads a node again, which is known to be one and to have room, and writes its words. Items are asked for as in count_nodes; the node ends where as many lists
+// are open as before it.
+pub(crate) fn fill_nodes(text: &[u8], mut reader: Reader, table: &mut [u32])
     requires { CanFill text.now reader table.old }
     ensures { DoesFill text.now reader table.old table.new }
 {
-    let mut r = reader;
+    let lists = reader.lists;
     let mut mark = Mark { next: 0, parent: 0 };
     loop {
-        let next = r.next_item(text);
-        r = next.reader;
+        let next = reader.next_item(text);
+        reader = next.reader;
         let Ok(item) = next.answer else {
             return;
         };
-        mark = mark.put_item(text, table, item, r.position);
-        if r.lists == reader.lists {
+        mark = mark.put_item(text, table, item);
+        if reader.lists == lists {
             return;
         }
     }
@@ -230,9 +226,13 @@ pub fn parse_tree(text: &[u8], reader: Reader, table: &mut [u32]) -> TreeRead
             answer: Err(TreeError::TextTooLong),
         };
     }
-    let counted = count_nodes(text, reader);
-    let Ok(nodes) = counted.answer else {
-        return counted;
+    let mut behind = reader;
+    let answer = count_nodes(text, &mut behind);
+    let Ok(nodes) = answer else {
+        return TreeRead {
+            reader: behind,
+            answer,
+        };
     };
     if nodes > table.len() / 4 {
         return TreeRead {
@@ -241,5 +241,8 @@ pub fn parse_tree(text: &[u8], reader: Reader, table: &mut [u32]) -> TreeRead
         };
     }
     fill_nodes(text, reader, table);
-    counted
+    TreeRead {
+        reader: behind,
+        answer,
+    }
 }

@@ -1,8 +1,8 @@
 // Tables: whether one holds a tree, and the node at the end of a path.
-ghost use Rattle.std.specs.Prelude.{◌≡◌, ◌&&◌, ◌+◌, ◌-◌, ◌*◌, ◌/◌, ◌^◌, ◌≤◌, ◌<◌, eqb, length, get_or, is_some};
-ghost use Rattle.sise_tree.specs.Tree.{kind, linked, fills_in, fits_kind};
-ghost use Rattle.sise_tree.specs.Parts.{SameFrom, good_in, atom_holds_at};
-ghost use Rattle.sise_tree.specs.NodeWords.{node_words};
+ghost use Rattle.std.specs.Prelude.{◌≡◌, ◌+◌, ◌/◌, ◌^◌, ◌≤◌, ◌<◌, true, cond, eqb, length, is_some};
+ghost use Rattle.sise_tree.specs.Tree.{good, fills_in, fits_kind};
+ghost use Rattle.sise_tree.specs.Parts.{SameFrom, atom_holds_at};
+ghost use Rattle.sise_tree.specs.NodeWords.{words_at, node_words};
 ghost use Rattle.sise_tree.specs.Decision.{decide};
 ghost use Rattle.sise_tree.specs.Held.{held_if, held_as};
 ghost use Rattle.sise_tree.specs.IndexPath.{index_path};
@@ -34,13 +34,14 @@ pub enum PathError {
 impl Refusal for PathError {
     ghost meaning = { path_refusal };
 
+    // `as` wants the enum itself, so that neither a generic function nor a default body of the trait can cast for all three enums of such numbers.
     fn numbers(self) -> RefusalNumbers {
         RefusalNumbers::unplaced(self as u32)
     }
 }
 
 // A table, and the text in which its atoms lie.
-#[derive(Clone, Copy)]
+#[derive(Clone, Copy, Debug, PartialEq, Eq)]
 pub struct TreeTable<'a> {
     pub table: &'a [u32],
     pub text: &'a [u8],
@@ -65,26 +66,24 @@ pub fn wide(x: u32) -> usize
     x as usize
 }
 
-// Word `j` of node `i`, the first of which is word 0. It and is_list read one word, and do not go by `node`, which reads four and answers an Option, also where
-// the node is known to be in the table.
-pub(crate) fn word(table: &[u32], i: usize, j: usize) -> usize
-    requires { 4 * i + j < length table.now }
-    ensures same { result ≡ get_or table.now (4 * i + j) 0 }
-    ensures small { result < 2 ^ 32 }
-{
-    wide(table[4 * i + j])
-}
-
-// Whether node `i` is a list.
-pub(crate) fn is_list(table: &[u32], i: usize) -> bool
+// Node `i`'s words, where it is known to be in the table; `node`, which does not know it, answers an Option. A type for the fact would be the table and an
+// index, made at each turn of a loop for this one call.
+pub(crate) fn words_of(table: &[u32], i: usize) -> NodeWords
     requires { i < length table.now / 4 }
-    ensures { result ≡ eqb (kind table.now i) 0 }
+    ensures { result ≡ words_at table.now i }
 {
-    table[4 * i] == 0
+    let [kind, first, second, span] = table.as_chunks::<4>().0[i];
+    NodeWords {
+        kind,
+        first,
+        second,
+        span,
+    }
 }
 
 // How many nodes from `at` on, `left` at most and before node `end`, are no lists and have the span 1, as atoms have. Counted so, the next node's place does
-// not wait for the word that says how far it is.
+// not depend on the word that says how far it is. A `for`: `position` over the chunks of four was tried, and the proof of `same` did not close, which has to go
+// from its answers, chunk by chunk, back to the words of the table.
 fn singles(table: &[u32], left: usize, at: usize, end: usize) -> usize
     requires { (end ≤ length table.now / 4) × (at < end) }
     ensures same { SameFrom table.now left at end result }
@@ -93,7 +92,8 @@ fn singles(table: &[u32], left: usize, at: usize, end: usize) -> usize
 {
     let most = left.min(end - at);
     for run in 0..most {
-        if is_list(table, at + run) || word(table, at + run, 3) != 1 {
+        let node = words_of(table, at + run);
+        if node.kind == 0 || node.span != 1 {
             return run;
         }
     }
@@ -101,14 +101,10 @@ fn singles(table: &[u32], left: usize, at: usize, end: usize) -> usize
 }
 
 // Whether node `i`, a child of the first node, has the distance to it as its third word, if it is a list.
-fn is_linked(table: &[u32], i: usize) -> bool
-    requires { i < length table.now / 4 }
-    ensures { result ≡ linked table.now 0 i }
+fn is_linked(node: NodeWords, i: usize) -> bool
+    ensures { result ≡ cond (eqb node.kind 0) (eqb node.second i) true }
 {
-    if !is_list(table, i) {
-        return true;
-    }
-    word(table, i, 2) == i
+    node.kind != 0 || wide(node.second) == i
 }
 
 // Whether the spans of so many children of the first node, which stand after it, end exactly at node `end`, which is in the table or just past it, and each
@@ -130,14 +126,11 @@ fn fills(table: &[u32], children: usize, end: usize) -> bool
             at += run;
             left -= run;
         } else {
-            let span = word(table, at, 3);
-            if span == 0 {
+            let node = words_of(table, at);
+            if node.span == 0 || !is_linked(node, at) {
                 return false;
             }
-            if !is_linked(table, at) {
-                return false;
-            }
-            at += span;
+            at += wide(node.span);
             left -= 1;
         }
     }
@@ -149,41 +142,35 @@ fn fills(table: &[u32], children: usize, end: usize) -> bool
 fn kind_holds(kind: u32, atom: Option<AtomKind>) -> Result<(), TableError>
     ensures { result ≡ held_if (fits_kind atom kind) (is_some atom) }
 {
-    match atom {
-        Some(own) if kind == own as u32 => Ok(()),
-        None if 1 <= kind && kind <= 3 => Err(TableError::NoAtom),
+    match (atom, kind) {
+        (Some(own), _) if kind == own as u32 => Ok(()),
+        (None, 1..=3) => Err(TableError::NoAtom),
         _ => Err(TableError::NotATree),
     }
 }
 
 impl<'a> TreeTable<'a> {
-    // Node `i`'s words, where the table has them all. The test of `i` comes first, since 4 * i may be past a usize; behind it the words by index are as
-    // plain as a chunk of four, whose words are read by index too.
+    // Node `i`'s words, where the table has them all.
     #[inline(always)]
     pub fn node(self, i: usize) -> Option<NodeWords>
         ensures { result ≡ node_words self.entry.table.now i }
     {
-        let table = self.table;
-        if i >= table.len() / 4 {
+        if i >= self.table.len() / 4 {
             return None;
         }
-        Some(NodeWords {
-            kind: table[4 * i],
-            first: table[4 * i + 1],
-            second: table[4 * i + 2],
-            span: table[4 * i + 3],
-        })
+        Some(words_of(self.table, i))
     }
 
-    // What the first node is: it is in the table and has one of the two forms, and an atom's bytes are one, or not. A list's third word is looked at where its
-    // parent steps over it.
-    fn node_holds(self) -> Result<(), TableError>
-        ensures { result ≡ held_if (good_in self.entry.text.now self.entry.table.now 0) (atom_holds_at self.entry.text.now self.entry.table.now 0) }
+    // What node `i` is, which is in the table: it has one of the two forms, and an atom's bytes are an atom, or not. A list is tested as the first node of the
+    // part of the table from it on, which is enough (proofs/LocalLaws.antt). Its third word is looked at where its parent steps over it.
+    fn node_holds(self, i: usize) -> Result<(), TableError>
+        requires { i < length self.table.now / 4 }
+        ensures { result ≡ held_if (good self.entry.text.now self.entry.table.now i) (atom_holds_at self.entry.text.now self.entry.table.now i) }
     {
-        let node = self.node(0).ok_or(TableError::NotATree)?;
+        let node = words_of(self.table, i);
         let first = wide(node.first);
         if node.kind == 0 {
-            if fills(self.table, first, wide(node.span)) {
+            if fills(&self.table[4 * i..], first, wide(node.span)) {
                 return Ok(());
             }
             return Err(TableError::NotATree);
@@ -195,9 +182,8 @@ impl<'a> TreeTable<'a> {
         kind_holds(node.kind, check_atom_prefix(&self.text[first..], len))
     }
 
-    // What the table holds over the text. Each node is tested by itself, as the first of the part of the table from it on, which is enough
-    // (proofs/LocalLaws.antt), and stepped over once, by its list; an atom's bytes are looked at once. So the time is linear in the first node's span and the
-    // bytes of its atoms.
+    // What the table holds over the text. Each node is tested by itself and stepped over once, by its list; an atom's bytes are looked at once. So the time is
+    // linear in the first node's span and the bytes of its atoms.
     pub fn holds_tree(self) -> Result<(), TableError>
         ensures { result ≡ held_as self.entry.text.now (decide self.entry.text.now self.entry.table.now) }
     {
@@ -207,17 +193,12 @@ impl<'a> TreeTable<'a> {
             return Err(TableError::NotATree);
         }
         let mut held = Ok(());
-        // By the index, since each node is looked at with all of the table behind it: an iterator of the library gives parts of one size.
+        // By the index, by which a list's part of the table is found.
         for i in 0..end {
-            let part = TreeTable {
-                table: &self.table[4 * i..],
-                text: self.text,
-            };
-            if let Err(error) = part.node_holds() {
-                if let TableError::NotATree = error {
-                    return Err(error);
-                }
-                held = Err(error);
+            match self.node_holds(i) {
+                Ok(()) => {}
+                Err(TableError::NoAtom) => held = Err(TableError::NoAtom),
+                Err(TableError::NotATree) => return Err(TableError::NotATree),
             }
         }
         held
@@ -230,12 +211,9 @@ impl<'a> TreeTable<'a> {
         if self.text.len() > LONGEST {
             return Err(PathError::TextTooLong);
         }
-        if let Err(error) = self.holds_tree() {
-            if let TableError::NotATree = error {
-                return Err(PathError::NotATree);
-            }
+        if self.holds_tree() == Err(TableError::NotATree) {
+            return Err(PathError::NotATree);
         }
-        let found = self.find_path(path)?;
-        Ok(found.index)
+        Ok(self.find_path(path)?.index)
     }
 }

@@ -5,7 +5,6 @@ use native.Mathlib.Omega.{arith}
 use mathlib.Core.Path.{◌≡◌, refl, sym, ap, ◌∙◌}
 use mathlib.Core.Bool.{Bool, true, false, ◌&&◌, false≢true}
 use Rattle.std.specs.Prelude.{Option, Some, None, Ok, Err}
-use Rattle.std.specs.Option.{ok_or}
 use mathlib.Core.List.{List, [], ◌∷◌, ◌++◌, append-nil}
 use lib.ListN.{length, replicate, length-replicate}
 use Rattle.sise_util.proofs.Ranges.{split, and_first, and_second}
@@ -119,7 +118,7 @@ module _ (s : Style) (room : ℕ) (w : Serializer) (text words : List ℕ) (t : 
       whole = text_calls text t wished taken.node
 
       -- the finish has no room
-      text_full : Plans (finish_call wished) s room r.serializer None → (b : List ℕ) → length b ≡ room
+      text_full : is_accepted (step s room r.serializer (finish_call wished)).answer ≡ false → (b : List ℕ) → length b ≡ room
           → DoesMeasure (write_tree s b w text words (text_calls text t wished)) (record { serializer = w; answer = Err NoRoom })
       unfolding text_calls
       text_full plan b long =
@@ -127,7 +126,7 @@ module _ (s : Style) (room : ℕ) (w : Serializer) (text words : List ℕ) (t : 
           rw (taken.made b (text_calls text t wished), written_off s b w whole (rw long f)) (refused_measures b w NoRoom refl)
 
       -- or it has
-      text_fits : {v : Serializer} → Plans (finish_call wished) s room r.serializer (Some v) → (b : List ℕ) → length b ≡ room
+      pub text_fits : {v : Serializer} → Plans (finish_call wished) s room r.serializer (Ok v) → (b : List ℕ) → length b ≡ room
           → DoesMeasure (write_tree s b w text words (text_calls text t wished)) (record { serializer = v; answer = Ok o })
       unfolding text_calls
       text_fits {v} plan b long =
@@ -136,16 +135,10 @@ module _ (s : Style) (room : ℕ) (w : Serializer) (text words : List ℕ) (t : 
           let e : v ≡ after s (length b) w whole = ahead.0 ∙ sym (after_more s room (finish_call wished) w calls) ∙ rw long refl in
           rw (taken.made b (text_calls text t wished), e) (fits_measures s b w whole (rw long f) (rw long (first_more s room (finish_call wished) w calls tree_first)))
 
-      -- so for the answer that is made of it
-      pub finish_off : (m : Option Serializer) {x : WriteTreeError} → Plans (finish_call wished) s room r.serializer m → Err x ≡ ok_or m NoRoom → (b : List ℕ) → length b ≡ room
+      -- with another refusal it would not be planned
+      pub finish_off : {x : WriteTreeError} → Plans (finish_call wished) s room r.serializer (Err x) → (b : List ℕ) → length b ≡ room
           → DoesMeasure (write_tree s b w text words (text_calls text t wished)) (record { serializer = w; answer = Err x })
-      finish_off None {x} plan q b long = let z : x ≡ NoRoom = cc in rw z (text_full plan b long)
-      finish_off (Some v) plan q b long = absurd cc
-
-      pub finish_on : (m : Option Serializer) {v : Serializer} → Plans (finish_call wished) s room r.serializer m → Ok v ≡ ok_or m NoRoom → (b : List ℕ) → length b ≡ room
-          → DoesMeasure (write_tree s b w text words (text_calls text t wished)) (record { serializer = v; answer = Ok o })
-      finish_on None plan q b long = absurd cc
-      finish_on (Some x) {v} plan q b long = let z : v ≡ x = cc in rw z (text_fits plan b long)
+      finish_off plan b long = rw plan.0 (text_full plan.1 b long)
 
   -- the tree has no room, or is refused before: so is the whole text
   text_none : (wished : Bool) → ((o : ℕ) → put_as r.answer ≡ answered o → ⊥) → (b : List ℕ) → length b ≡ room → DoesMeasure (write_tree s b w text words (text_calls text t wished)) r

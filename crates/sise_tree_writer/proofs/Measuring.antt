@@ -5,8 +5,7 @@ use native.Mathlib.Omega.{arith}
 use mathlib.Core.Path.{◌≡◌, refl, sym, ap, ◌∙◌}
 use mathlib.Core.Bool.{true, false, false≢true}
 use mathlib.Core.Option.{Option as Maybe, none, some, some-injective}
-use Rattle.std.specs.Prelude.{Option, Ok, Err}
-use Rattle.std.specs.Option.{ok_or}
+use Rattle.std.specs.Prelude.{Result, Ok, Err}
 use mathlib.Core.List.{List, [], ◌∷◌}
 use lib.Dec.{ltb}
 use lib.ListN.{length}
@@ -27,7 +26,8 @@ use Rattle.sise_tree.specs.declared.tree.TableError.{TableError}
 use Rattle.sise_tree.specs.declared.tree.TableError.TheVariants as table
 use Rattle.sise_tree.proofs.HeldLaws.{flawed_held, none_held}
 use Rattle.sise_tree_writer.specs.Answers.{error_number, refusal_of}
-use Rattle.sise_tree_writer.specs.SerializeTree.{fits, Writes, refuse, first_offset, written, is_over, write_node, write_tree, DoesMeasure}
+use Rattle.sise_serializer.specs.Phases.{is_over}
+use Rattle.sise_tree_writer.specs.SerializeTree.{fits, Writes, refuse, first_offset, written, write_node, write_tree, DoesMeasure}
 use Rattle.sise_tree_writer.specs.Writing.{Checked}
 use Rattle.sise_tree_writer.specs.Walking.{after, first_answer, Finds, all, off}
 use Rattle.sise_serializer.specs.declared.serializer.Placed.{Placed}
@@ -169,7 +169,7 @@ module _ (s : Style) (b : List ℕ) (w : Serializer) (cs : List Call) where
 
 -- what a walk finds in room bytes is what holds of a buffer of so many bytes
 module _ {s : Style} {room : ℕ} {w : Serializer} {cs : List Call} (b : List ℕ) (long : length b ≡ room) where
-  pub found : {m : Option Placed} → Finds s room w cs m → DoesMeasure (written s b w cs) (wrote_of w (ok_or m NoRoom))
+  pub found : {m : Result Placed WriteTreeError} → Finds s room w cs m → DoesMeasure (written s b w cs) (wrote_of w m)
   found (all f a) = rw (← long) (fits_measures s b w cs (rw long f) (rw long a))
   found (off f) = rw (written_off s b w cs (rw long f)) (refused_measures b w NoRoom refl)
 

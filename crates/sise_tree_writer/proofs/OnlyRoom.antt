@@ -24,7 +24,8 @@ use Rattle.sise_serializer.proofs.Verdicts.{end_of, put, Puts, atom_alone, atom_
 use Rattle.sise_tree.specs.Tree.{atoms_hold, atoms_hold_all, Node, atom, list, Nodes, empty, ◌then◌}
 use Rattle.sise_tree.specs.Decision.{decide}
 use Rattle.sise_tree.specs.Answers.{refused_with}
-use Rattle.sise_tree_writer.specs.SerializeTree.{node_calls, row_calls, tree_calls, fits, Writes, refuse, written, is_over, write_tree, serialize_tree}
+use Rattle.sise_serializer.specs.Phases.{is_over}
+use Rattle.sise_tree_writer.specs.SerializeTree.{node_calls, row_calls, tree_calls, fits, Writes, refuse, written, write_tree, serialize_tree}
 use Rattle.sise_tree_writer.specs.Writing.{text_calls}
 use Rattle.sise_tree_writer.proofs.CallLaws.{checked_atom, fits_off}
 use Rattle.sise_tree_writer.proofs.Placing.{puts_sound, placed, not_placed, puts_place, put_fits}

@@ -20,13 +20,18 @@ use Rattle.sise_serializer.specs.declared.serializer.Phase.TheVariants.{Beginnin
 use Rattle.sise_serializer.specs.declared.serializer.Serializer.{Serializer}
 use Rattle.sise_serializer.specs.declared.serializer.WriteError.{WriteError}
 use Rattle.sise_serializer.proofs.Verdicts.{end_of, put}
+use Rattle.sise_tree_writer.specs.declared.serialize.WriteTreeError.{WriteTreeError}
 use Rattle.sise_tree_writer.specs.Planning.{RecordOf, behind_of, Room, WritesPiece, Accepts, Leaves}
 use Rattle.sise_tree_writer.proofs.Made.{no_offset}
 
 -- the record of a plan is that of the call
 pub planned_record : (s : Style) (room : ℕ) (w : Serializer) (token : List ℕ) (d : Written) (r : Result Planned WriteError) → PlansAs s room w token d r → RecordOf d (behind_of r)
 planned_record s room w token d (Ok p) f = rw f.done (refl, refl)
-planned_record s room w token d (Err e) f = rw f refl
+planned_record s room w token d (Err e) f = rw f (refl, refl)
+
+pub planned_as : (s : Style) (room : ℕ) (w : Serializer) (token : List ℕ) (d : Written) (r : Result Planned WriteError) → PlansAs s room w token d r
+    → {m : Result Serializer WriteTreeError} → m ≡ behind_of r → RecordOf d m
+planned_as s room w token d r f e = rw e (planned_record s room w token d r f)
 
 -- ---- a piece that is accepted
 

@@ -1,23 +1,26 @@
 -- The turns of a walk over a table that holds a tree make the tree's calls, one after the other: at each place the calls left are those of the nodes left
 -- in the innermost open list, its end, and what is left of the lists around it.
 -- Assumes nothing.
-use Prim.Native.Nat.{ℕ, ◌+◌, ◌<◌}
+use Prim.Native.Nat.{ℕ, ◌+◌, ◌-◌, ◌*◌, ◌<◌}
 use native.Mathlib.Omega.{arith}
 use mathlib.Core.Path.{◌≡◌, refl, sym, ◌∙◌}
-use mathlib.Core.Bool.{false, cond}
+use mathlib.Core.Bool.{true, false, cond}
 use Rattle.std.specs.Prelude.{Option, Some, None}
 use mathlib.Core.List.{List, [], ◌∷◌, ◌++◌, append_assoc}
 use lib.Dec.{eqb}
+use lib.ListN.{length}
 use borrow.Author.Tests.{ne_eqb}
 use Rattle.sise_parser.specs.Reader.{part_of}
 use Rattle.sise_serializer.specs.Calls.{largest, Call, put_atom_call, begin_list_call, end_list_call}
 use Rattle.sise_tree.specs.Tree.{Node, atom, list, Nodes, empty, ◌then◌, size, sizes, table_at, lies, span}
 use Rattle.sise_tree.proofs.TreeLaws.{sits_kind, size_pos, holds_words}
-use Rattle.sise_tree.proofs.LocalLaws.{stands, Held}
+use Rattle.sise_tree.specs.Decision.{decide, is_some}
+use Rattle.sise_tree.proofs.LocalLaws.{stands, Held, held}
 use Rattle.sise_tree.proofs.WalkLaws.{Around, Walk, walk_root, walk_atom, walk_list, walk_close, walk_ends, walk_within}
 use Rattle.sise_tree_writer.specs.SerializeTree.{node_calls, row_calls, tree_calls}
-use Rattle.sise_tree_writer.specs.Walking.{IsTurn, Passable, started, left_list, passed, turn_call}
+use Rattle.sise_tree_writer.specs.Walking.{IsTurn, NodeIn, AtomIn, Passable, started, left_list, passed, CanTurn, turns_left, Comes, begun, on, turn_call}
 use Rattle.sise_tree_writer.specs.declared.walk.Place.{Place}
+use Rattle.sise_tree_writer.proofs.Atoms.{node_there, atom_there}
 use Rattle.sise_tree_writer.specs.declared.walk.Turn.{Turn}
 use Rattle.sise_tree_writer.specs.declared.walk.Turn.TheVariants as turn
 
@@ -56,6 +59,11 @@ pub record Turned (words text : List ℕ) (t : ℕ) (p : Place) (rest : List Cal
   pub due : rest ≡ turn_call x t ∷ more
   pub next : AtDue words text t (passed words p x) more
   pub passable : Passable words p x
+  pub less : turns_left words (passed words p x) < turns_left words (Some p)
+
+-- the nodes left behind a node that is passed
+fewer : (l i : ℕ) → i < l → (1 + l) * (l - i) ≡ 1 + l + (1 + l) * (l - (i + 1))
+fewer l i h = let e : l - i ≡ 1 + (l - (i + 1)) = omega arith in rw e (omega arith)
 
 module _ (words text : List ℕ) (t : ℕ) where
   -- the node that is due is one of the first node's
@@ -71,10 +79,10 @@ module _ (words text : List ℕ) (t : ℕ) where
   unfolding node_calls table_at size pending lies
   root_turn n h turn.End z = absurd (omega (arith, z, h.spans, size_pos n))
   root_turn (atom w m k) h turn.List z = let s = stands words 0 (holds_words h.holds) in absurd (sits_kind text w m k h.holds.in_text (sym s.kinds ∙ z.1))
-  root_turn (list c) h turn.List z = record { more = pending text largest t c []; due = refl; next = inside c [] (walk_root c h) refl refl; passable = omega (arith, h.fits) }
+  root_turn (list c) h turn.List z = record { more = pending text largest t c []; due = refl; next = inside c [] (walk_root c h) refl refl; passable = omega (arith, h.fits); less = omega (arith, h.fits, fewer (length words) 0) }
   root_turn (atom w m k) h (turn.Atom a begins) z =
       let s = stands words 0 (holds_words h.holds) in
-      record { more = []; due = rw (z.2, z.3, s.firsts, s.seconds); next = refl; passable = omega (arith, h.fits) }
+      record { more = []; due = rw (z.2, z.3, s.firsts, s.seconds); next = refl; passable = omega (arith, h.fits); less = omega arith }
   root_turn (list c) h (turn.Atom a begins) z = let s = stands words 0 (holds_words h.holds) in absurd (z.1 s.kinds)
 
   -- ---- inside it
@@ -91,6 +99,7 @@ module _ (words text : List ℕ) (t : ℕ) where
           due = rw none;
           next = rw last refl;
           passable = record { listed = omega (arith, r.stop, r.fit, r.behind, r.after); away = λ f. absurd (f last) };
+          less = rw last (omega arith);
         }
     close_turn c (d ∷ o) w z =
         let none = walk_ends words c (d ∷ o) w (z ∙ ends) in
@@ -102,6 +111,7 @@ module _ (words text : List ℕ) (t : ℕ) where
           due = rw none;
           next = rw inner (inside d o (walk_close words d o (rw none at w)) refl refl);
           passable = record { listed = omega (arith, r.stop, r.fit, r.behind, r.after); away = λ f. child.within };
+          less = rw inner (omega (arith, child.away, child.within));
         }
 
     inside_turn : (c : Nodes) (o : List Nodes) → Walk words p.list p.i c o → (x : Turn) → IsTurn text words p x → Turned words text t p (pending text (cond p.begins largest t) t c o) x
@@ -116,6 +126,7 @@ module _ (words text : List ℕ) (t : ℕ) where
           due = pending_list text (cond p.begins largest t) t d c o;
           next = inside d (c ∷ o) s.next refl refl;
           passable = omega (arith, w.rest.fit);
+          less = omega (arith, w.rest.fit, fewer (length words) p.i);
         }
     inside_turn empty o w (turn.Atom a begins) z = absurd (z.0 (omega (arith, ends, w.rest.stop)))
     inside_turn (atom g m k then c) o w (turn.Atom a begins) z =
@@ -127,6 +138,7 @@ module _ (words text : List ℕ) (t : ℕ) where
           due = pending_atom text (cond p.begins largest t) t g m k c o ∙ rw (z.2, z.3, s.places, s.lengths);
           next = rw later (inside c o s.next ends refl);
           passable = omega (arith, w.rest.fit);
+          less = rw later (omega (arith, w.rest.fit, fewer (length words) p.i));
         }
     inside_turn (list d then c) o w (turn.Atom a begins) z = absurd (z.1 (walk_list words d c o w).kinds)
 
@@ -134,3 +146,27 @@ module _ (words text : List ℕ) (t : ℕ) where
   pub turned : {p : Place} {rest : List Call} (x : Turn) → At words text t p rest → IsTurn text words p x → Turned words text t p rest x
   turned x (root n h e q) z = rw (e, q) (root_turn n h x (rw e at z))
   turned x (inside c o w e q) z = rw q (inside_turn e c o w x z)
+
+  -- so a walk that goes on is where it makes the calls left
+  pub come : is_some (decide text words) ≡ true → {due : Option Place} → Comes text words due → (rest : List Call) × AtDue words text t due rest
+  come h begun = let (n, d, i) = held text words h in (tree_calls text t n, root n i refl refl)
+  come h (on p x c z) = let (rest, at) = come h c in let m = turned x at z in (m.more, m.next)
+
+-- ---- a walk over a table that holds a tree
+
+module _ {text words : List ℕ} {p : Place} (can : CanTurn text words (Some p)) where
+  abbrev here : At words text 0 p (come words text 0 can.0 can.1).0
+  here = (come words text 0 can.0 can.1).1
+
+  pub node_in : NodeIn words p
+  node_in = λ f. node_there text words can.0 p.i (due_within words text 0 here f)
+
+  pub atom_in : AtomIn text words p
+  atom_in = λ f. atom_there text words can.0 p.i (due_within words text 0 here f)
+
+  module _ (x : Turn) (is : IsTurn text words p x) where
+    pub may_pass : Passable words p x
+    may_pass = (turned words text 0 x here is).passable
+
+    pub nearer : CanTurn text words (passed words p x) × (turns_left words (passed words p x) < turns_left words (Some p))
+    nearer = ((can.0, on p x can.1 is), (turned words text 0 x here is).less)

@@ -1,19 +1,17 @@
 -- What a walk over a tree's calls knows before each turn, and that a turn leads on: the calls left do as the whole does, and the first offset is kept.
 -- Assumes nothing.
-use Prim.Native.Nat.{ℕ, ◌+◌, ◌-◌, ◌*◌, ◌<◌}
-use native.Mathlib.Omega.{arith}
+use Prim.Native.Nat.{ℕ}
 use mathlib.Core.Path.{◌≡◌, refl, sym, ap, ◌∙◌}
-use mathlib.Core.Bool.{Bool, true, false, cond}
+use mathlib.Core.Bool.{Bool, true, false}
 use mathlib.Core.Option.{some, some-injective}
-use Rattle.std.specs.Prelude.{Option, Some, None}
+use Rattle.std.specs.Prelude.{Option, Some, None, Ok, Err}
 use mathlib.Core.List.{List, []}
-use lib.Dec.{eqb}
 use lib.ListN.{length}
 use Rattle.sise_util.proofs.Ranges.{split}
 use Rattle.sise_serializer.specs.Bytes.{pasted}
 use Rattle.sise_serializer.specs.Serializer as writer
 use Rattle.sise_serializer.specs.Serializer.{Style, is_sound}
-use Rattle.sise_serializer.specs.Calls.{largest, Call, put_atom_call, begin_list_call, end_list_call, is_accepted, step, run}
+use Rattle.sise_serializer.specs.Calls.{Call, is_accepted, step, run}
 use Rattle.sise_serializer.specs.declared.serializer.Serializer.{Serializer}
 use Rattle.sise_serializer.proofs.Kept.{sound_kept}
 use Rattle.sise_tree.specs.Tree.{Node}
@@ -22,12 +20,13 @@ use Rattle.sise_tree.proofs.LocalLaws.{held}
 use Rattle.sise_tree_writer.specs.SerializeTree.{tree_calls, fits}
 use Rattle.sise_tree_writer.specs.Writing.{Checked}
 use Rattle.sise_tree_writer.specs.Planning.{CanMake, Makes, Starts}
-use Rattle.sise_tree_writer.specs.Walking.{IsTurn, NodeIn, Passable, GoodTurn, started, left_list, passed, turn_call, after, first_answer, Finds, all, off, Walkable}
+use Rattle.sise_tree_writer.specs.Walking.{IsTurn, GoodTurn, started, passed, turn_call, after, first_answer, Finds, all, off, Walkable}
+use Rattle.sise_tree_writer.specs.declared.serialize.WriteTreeError.TheVariants.{NoRoom}
 use Rattle.sise_tree_writer.specs.declared.walk.Place.{Place}
 use Rattle.sise_tree_writer.specs.declared.walk.Turn.{Turn}
 use Rattle.sise_tree_writer.specs.declared.walk.Turn.TheVariants as turn
-use Rattle.sise_tree_writer.proofs.Atoms.{node_there, atom_good}
-use Rattle.sise_tree_writer.proofs.CallLaws.{fits_first, fits_stop, accepted_lists, closed_list, written_if, Same, same_start, same_on}
+use Rattle.sise_tree_writer.proofs.Atoms.{atom_good}
+use Rattle.sise_tree_writer.proofs.CallLaws.{fits_first, fits_stop, written_if, Same, same_start, same_on}
 use Rattle.sise_tree_writer.proofs.Starting.{tree_starts}
 use Rattle.sise_tree_writer.proofs.Turns.{At, root, AtDue, due_within, Turned, turned}
 
@@ -47,11 +46,6 @@ pub record Walking (s : Style) (text words : List ℕ) (t : ℕ) (writes : Bool)
   pub fit : writes ≡ true → fits s room w₀ (tree_calls text t tree) ≡ true
   pub long : length b ≡ length b₀
   pub begun : Begun s room w₀ (tree_calls text t tree) due w rest
-
--- how many turns are left at most: each makes less of them
-abbrev pub turns_left : List ℕ → Option Place → Serializer → ℕ
-turns_left words None w = 0
-turns_left words (Some p) w = 1 + 2 * (length words - p.i) + w.lists
 
 pub walking_start : (s : Style) (text words : List ℕ) (t : ℕ) (writes : Bool) (room : ℕ) (b : List ℕ) (w : Serializer)
     → Walkable w text words → (writes ≡ true → room ≡ length b)
@@ -84,15 +78,9 @@ module _ {s : Style} {text words : List ℕ} {t : ℕ} {writes : Bool} {room : �
     at_place : At words text t p h.rest
     at_place = rw is at h.at
 
-    pub place_in : NodeIn words p
-    place_in = λ f. node_there text words h.checked.holds p.i (due_within words text t at_place f)
-
     module _ (x : Turn) (its : IsTurn text words p x) where
       abbrev made : Turned words text t p h.rest x
       made = turned words text t x at_place its
-
-      pub turn_passable : Passable words p x
-      turn_passable = made.passable
 
       pub turn_good : GoodTurn x
       turn_good = good x its
@@ -116,24 +104,6 @@ module _ {s : Style} {text words : List ℕ} {t : ℕ} {writes : Bool} {room : �
           (o, sym (ap (λ (k : ℕ). (step s k w call).answer) (h.same.lent y)) ∙ e)
 
       module _ {v : Serializer} {at : ℕ} (does : v ≡ (step s room w call).serializer) (accepted : (step s room w call).answer ≡ writer.Answer.accepted at) where
-        -- fewer nodes, or fewer open lists
-        pub turn_less : turns_left words (passed words p x) v < turns_left words due w
-        unfolding left_list
-        turn_less = rw is (less x its turn_passable does accepted)
-          where
-            less : (x : Turn) → IsTurn text words p x → Passable words p x → v ≡ (step s room w (turn_call x t)).serializer
-                → (step s room w (turn_call x t)).answer ≡ writer.Answer.accepted at → turns_left words (passed words p x) v < 1 + 2 * (length words - p.i) + w.lists
-            less turn.End z k d e =
-                let lists : v.lists ≡ w.lists - 1 = ap (λ (x : Serializer). x.lists) d ∙ accepted_lists s room w h.sound end_list_call e in
-                let one : 0 < w.lists = closed_list s room w h.sound e in
-                split (eqb p.list 0) (λ y. rw y (omega arith)) (λ y. rw y (omega arith))
-            less turn.List z k d e =
-                let lists : v.lists ≡ w.lists + 1 = ap (λ (x : Serializer). x.lists) d ∙ accepted_lists s room w h.sound (begin_list_call t) e in
-                omega arith
-            less (turn.Atom a begins) z k d e =
-                let lists : v.lists ≡ w.lists = ap (λ (x : Serializer). x.lists) d ∙ accepted_lists s room w h.sound (put_atom_call a.now (cond begins largest t)) e in
-                split (eqb p.i 0) (λ y. rw y (omega arith)) (λ y. rw y (omega arith))
-
         module _ {now : List ℕ} (wrote : now ≡ written_if writes b w.position (step s room w call).bytes) where
           later : Same s writes room b₀ w₀ calls now v made.more
           later = same_on (rw made.due at h.same) does wrote accepted
@@ -173,16 +143,13 @@ module _ {s : Style} {text words : List ℕ} {t : ℕ} {writes : Bool} {room : �
         made_wrote : now ≡ written_if writes b w.position (step s room w call).bytes
         made_wrote = rw y (k.buffer ∙ ap (λ (n : ℕ). pasted b w.position (step s n w call).bytes) long_as)
 
-        pub made_less : turns_left words (passed words p x) v < turns_left words due w
-        made_less = turn_less made_does made_accepted
-
         pub made_on : Walking s text words t writes room b₀ w₀ now v (passed words p x)
         made_on = turn_on made_does made_accepted made_wrote
 
   -- ---- the walk ends
 
   -- a call was refused
-  pub walk_off : fits s room w₀ calls ≡ false → {n : Node} → decide text words ≡ some n → Finds s room w₀ (tree_calls text t n) None
+  pub walk_off : fits s room w₀ calls ≡ false → {n : Node} → decide text words ≡ some n → Finds s room w₀ (tree_calls text t n) (Err NoRoom)
   walk_off f d = off (rw (the_tree d) at f)
 
   -- nothing is left
@@ -202,7 +169,7 @@ module _ {s : Style} {text words : List ℕ} {t : ℕ} {writes : Bool} {room : �
     unfolding after
     ending = sym (ap (after s room w) over) ∙ h.same.last
 
-    pub walk_all : {r : ℕ} → Starts s room w₀ t r → {n : Node} → decide text words ≡ some n → Finds s room w₀ (tree_calls text t n) (Some (record { serializer = w; offset = r }))
+    pub walk_all : {r : ℕ} → Starts s room w₀ t r → {n : Node} → decide text words ≡ some n → Finds s room w₀ (tree_calls text t n) (Ok (record { serializer = w; offset = r }))
     walk_all starts d =
         let first = (first_was h.begun).1 in
         rw (← the_tree d, ending) (all all_fit (first ∙ ap writer.Answer.accepted (sym (tree_starts s room w₀ text t h.tree first starts))))

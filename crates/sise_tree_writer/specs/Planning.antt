@@ -1,7 +1,7 @@
 -- What it means that a call is planned: the record behind it is that of the call, if it is accepted, and nothing is written; and that a call which is known to
 -- fit is made: its record and its bytes are those of the call.
 -- Assumes nothing.
-use Rattle.std.specs.Prelude.{ℕ, ◌+◌, ◌≤◌, ◌≡◌, Bool, true, false, cond, List, ◌++◌, length, Option, Some, None, MatchOption, Result, Ok, Err}
+use Rattle.std.specs.Prelude.{ℕ, ◌+◌, ◌≤◌, ◌≡◌, Bool, true, false, cond, List, ◌++◌, length, Result, Ok, Err, MatchResult}
 use Rattle.sise_serializer.specs.Bytes.{pasted}
 use Rattle.sise_serializer.specs.Serializer.{limit, Style, Answer, Written, Piece}
 use Rattle.sise_serializer.specs.Calls.{Call, put_atom_call, begin_list_call, is_accepted, step}
@@ -9,19 +9,21 @@ use Rattle.sise_serializer.specs.Parts.{item_in}
 use Rattle.sise_serializer.specs.declared.plan.Planned.{Planned}
 use Rattle.sise_serializer.specs.declared.serializer.Serializer.{Serializer}
 use Rattle.sise_serializer.specs.declared.serializer.WriteError.{WriteError}
+use Rattle.sise_tree_writer.specs.declared.serialize.WriteTreeError.{WriteTreeError}
+use Rattle.sise_tree_writer.specs.declared.serialize.WriteTreeError.TheVariants.{NoRoom}
 
--- r is the record behind d, or there is none, as d is a refusal
-abbrev pub RecordOf : Written → Option Serializer → Type 0
-RecordOf d r = MatchOption r (is_accepted d.answer ≡ false) (λ v. (v ≡ d.serializer) × (is_accepted d.answer ≡ true))
+-- r is the record behind d, or d is a refusal, for which a tree is refused with 22
+abbrev pub RecordOf : Written → Result Serializer WriteTreeError → Type 0
+RecordOf d r = MatchResult r (λ v. (v ≡ d.serializer) × (is_accepted d.answer ≡ true)) (λ e. (e ≡ NoRoom) × (is_accepted d.answer ≡ false))
 
 -- that of a call in a buffer of room bytes
-abbrev pub Plans : Call → Style → ℕ → Serializer → Option Serializer → Type 0
+abbrev pub Plans : Call → Style → ℕ → Serializer → Result Serializer WriteTreeError → Type 0
 Plans c s room w r = RecordOf (step s room w c) r
 
 -- the record behind a call that was planned, if it has room
-abbrev pub behind_of : Result Planned WriteError → Option Serializer
-behind_of (Ok p) = Some p.placed.serializer
-behind_of (Err e) = None
+abbrev pub behind_of : Result Planned WriteError → Result Serializer WriteTreeError
+behind_of (Ok p) = Ok p.placed.serializer
+behind_of (Err e) = Err NoRoom
 
 -- begin_list, or put_atom of the atom a
 unfoldable pub item_call : List ℕ → Bool → ℕ → Call

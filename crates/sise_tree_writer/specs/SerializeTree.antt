@@ -1,12 +1,11 @@
 -- What serialize_tree answers and writes (document 01, "Trees" and "Refusals").
 -- Assumes nothing.
-use Rattle.std.specs.Prelude.{ℕ, ◌≡◌, Bool, true, false, ◌&&◌, cond, List, [], ◌∷◌, ◌++◌, ltb, length}
+use Rattle.std.specs.Prelude.{ℕ, ◌≡◌, Bool, true, ◌&&◌, cond, List, [], ◌∷◌, ◌++◌, ltb, length}
 use Rattle.std.proofs.Math.Option.{Option, none, some}
 use Rattle.sise_parser.specs.Reader.{part_of}
 use Rattle.sise_serializer.specs.Serializer as writer
 use Rattle.sise_serializer.specs.Serializer.{Style, is_sound}
-use Rattle.sise_serializer.specs.declared.serializer.Phase.{Phase}
-use Rattle.sise_serializer.specs.declared.serializer.Phase.TheVariants.{Beginning, Writing, Finished, Done}
+use Rattle.sise_serializer.specs.Phases.{is_over}
 use Rattle.sise_serializer.specs.declared.serializer.Serializer.{Serializer}
 use Rattle.sise_serializer.specs.Calls.{largest, is_accepted, Call, put_atom_call, begin_list_call, end_list_call, step, run}
 use Rattle.sise_tree.specs.Tree.{Node, atom, list, Nodes, empty, ◌then◌, atoms_hold}
@@ -59,13 +58,6 @@ written s buffer w cs =
     cond (fits s (length buffer) w cs)
     (record { serializer = r.last; answer = first_offset r.answers; buffer = r.buffer })
     (refuse 22 buffer w)
-
--- 19: "writing already finished; ... any call after an accepted finish"
-abbrev pub is_over : Phase → Bool
-is_over Beginning = false
-is_over Writing = false
-is_over Finished = true
-is_over Done = true
 
 -- what follows 15: 17, 19, 22, "each over the whole node before the next"; the calls are made of the node
 unfoldable pub write_node : Style → List ℕ → Serializer → List ℕ → (Node → List Call) → Option Node → Writes

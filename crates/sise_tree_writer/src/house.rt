@@ -1,4 +1,4 @@
-// The house style: LF, two spaces, lines of 72 bytes, and a line break at the end.
+// The house style: LF, two spaces, a new line for the next item where a line is at least 72 bytes long, and a line break at the end.
 ghost use Rattle.sise_tree_writer.specs.SerializeTree.{DoesWrite};
 ghost use Rattle.sise_tree_writer.specs.House.{house_at, house};
 
@@ -7,7 +7,7 @@ use crate::whole::write_text;
 use sise_serializer::SerializerStyle;
 use sise_tree::TreeTable;
 
-// Where a line is this long, the next item goes on a new one.
+// Where a line is at least this long, the next item goes on a new one.
 pub const HOUSE_THRESHOLD: u64 = 72;
 
 const HOUSE_STYLE: SerializerStyle<'static> = SerializerStyle {

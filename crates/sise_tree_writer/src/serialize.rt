@@ -1,8 +1,9 @@
 // The tree that a table holds, written as the writer's calls would write it: in one call, or measured first and then committed. Each public call makes a
-// `Writing` and calls its method, as those of whole.rt do. Its arguments stand in the order of the crate's calls: a struct of them would be made for each call
-// and read at once.
+// `Writing` of its arguments and calls its method, as those of whole.rt do. The arguments are those of the crate's serialize_tree, in its order, and a room or
+// a measured size.
+ghost use Rattle.std.specs.Prelude.{◌≡◌};
 ghost use Rattle.sise_serializer.specs.Serializer.{style_of};
-ghost use Rattle.sise_tree_writer.specs.Answers.{write_refusal};
+ghost use Rattle.sise_tree_writer.specs.Answers.{refusal_of, write_refusal};
 ghost use Rattle.sise_tree_writer.specs.SerializeTree.{serialize_tree, DoesWrite};
 ghost use Rattle.sise_tree_writer.specs.Sizes.{MeasuresTree, CommitsTree};
 
@@ -10,9 +11,10 @@ use crate::size::TreeSize;
 use crate::writing::Writing;
 use sise_parser::{Refusal, RefusalNumbers};
 use sise_serializer::{Serializer, SerializerStyle, Wrote};
-use sise_tree::TreeTable;
+use sise_tree::{TableError, TreeTable};
 
-// Why a call that writes or measures a tree is refused, by document 01's numbers. Only a commit answers SizeChanged.
+// Why a call that writes or measures a tree is refused, by document 01's numbers. Only a commit answers SizeChanged. Each error has only the refusals that its
+// calls can give: so it holds no WriteError, two of whose cases, NoListToEnd and WritingNotFinished, no tree is refused for, and no PathError.
 #[derive(Clone, Copy, Debug, PartialEq, Eq)]
 pub enum WriteTreeError {
     TextTooLong = 13,
@@ -30,8 +32,21 @@ pub type TreeWrote = Wrote<WriteTreeError>;
 impl Refusal for WriteTreeError {
     ghost meaning = { write_refusal };
 
+    // The same line stands in WriteError and PathError: the trait's own method could not cast, since it knows no numbers of its Self.
     fn numbers(self) -> RefusalNumbers {
         RefusalNumbers::unplaced(self as u32)
+    }
+}
+
+// A table that holds no tree of atoms is refused for the same reason.
+impl From<TableError> for WriteTreeError {
+    ghost from_gives = { λ error e. e ≡ refusal_of error };
+
+    fn from(error: TableError) -> WriteTreeError {
+        match error {
+            TableError::NotATree => WriteTreeError::NotATree,
+            TableError::NoAtom => WriteTreeError::InvalidAtom,
+        }
     }
 }
 
@@ -65,8 +80,8 @@ pub fn commit_tree(
     serializer.wrote(writing.commit(serializer, buf, measured))
 }
 
-// Writes the tree that `tree` holds. The first child of each list, if an atom, stays on the line of the `(`, and everything else goes on
-// a new line if the line is at least `break_line_at` bytes long. A refusal writes nothing and leaves the record.
+// Writes the tree that `tree` holds. An item goes on a new line if the line is at least `break_line_at` bytes long, but an atom that is its list's first child
+// stays on the line of the `(`. A `)` goes on a new line if its list has a line break in it. A refusal writes nothing and leaves the record.
 pub fn serialize_tree(
     serializer: Serializer,
     style: SerializerStyle<'_>,

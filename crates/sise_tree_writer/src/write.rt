@@ -1,14 +1,15 @@
-// The bytes of a tree whose calls are known to fit. No plan is asked for: it would look for room once more, and that wrote at 1.21 to 1.25 of the crate's speed
-// where this writes at 1.32 to 1.40 (docs/DECISIONS.md, "Measured, then written"). Each step asks for room for a piece of its own (`Room`), which is no fact of
-// a value that a type could hold. Nor is there a struct of `w` and `buf`: each step hands back another record, for which the struct would be made anew.
+// The bytes of a tree whose calls are known to fit. No plan is asked for: it would look for room once more, and in one comparison that wrote at 1.21 to 1.25 of
+// the crate's speed where this wrote at 1.32 to 1.40 (docs/DECISIONS.md, "Measured, then written"). Each step asks for room for a piece of its own (`Room`),
+// which is no fact of a value that a type could hold. Nor is there a struct of `w` and `buf` with a `&mut self`: it would hold a sound record, so that each of
+// the five steps had to show that its own is sound; now the loop does, once.
 ghost use Rattle.std.specs.Prelude.{◌≡◌, true, ◌<◌};
 ghost use Rattle.sise_serializer.specs.Serializer.{style_of, new_line, inner_as, close_as};
 ghost use Rattle.sise_serializer.specs.Calls.{end_list_call};
-ghost use Rattle.sise_serializer.specs.Parts.{first_item, in_line, gap_bytes};
+ghost use Rattle.sise_serializer.specs.Parts.{first_item, in_line};
 ghost use Rattle.sise_tree_writer.specs.Planning.{Room, WritesPiece, CanPut, Puts, CanMake, Makes};
 ghost use Rattle.sise_tree_writer.specs.Walking.{GoodTurn, turn_call, Writable, WritesNodes};
 
-use crate::walk::{Place, Turn};
+use crate::walk::{Turn, Walk};
 use crate::writing::Writing;
 use sise_serializer::{
     Phase, Serializer, SerializerStyle, SoundSerializer, paste, paste_line, write_gap,
@@ -49,8 +50,8 @@ fn write_on_new_line(
 // An item in the same line.
 #[inline(always)]
 fn write_in_line(w: SoundSerializer, buf: &mut [u8], token: &[u8], is_list: bool) -> Serializer
-    requires { Room w.serializer (in_line w.serializer token.now is_list (gap_bytes w.serializer.list_beginning)) buf.old }
-    ensures { WritesPiece w.serializer (in_line w.serializer token.now is_list (gap_bytes w.serializer.list_beginning)) buf.old result buf.new }
+    requires { Room w.serializer (in_line w.serializer token.now is_list) buf.old }
+    ensures { WritesPiece w.serializer (in_line w.serializer token.now is_list) buf.old result buf.new }
 {
     let position = w.serializer.position;
     let joins = w.serializer.list_beginning;
@@ -83,7 +84,8 @@ fn write_item(
     write_in_line(w, buf, token, is_list)
 }
 
-// A `)` on a line of its own.
+// A `)` on a line of its own. The line begins as in write_on_new_line: a function for the three lines in common would have to answer two numbers, `at` and
+// `indent`, and to promise both beside the bytes.
 fn end_on_new_line(w: SoundSerializer, style: SerializerStyle<'_>, buf: &mut [u8]) -> Serializer
     requires lists { 0 < w.serializer.lists }
     requires broken { w.serializer.broken ≡ w.serializer.lists }
@@ -99,7 +101,7 @@ fn end_on_new_line(w: SoundSerializer, style: SerializerStyle<'_>, buf: &mut [u8
     w.behind_end_on_new_line(at + 1, indent + 1)
 }
 
-// end_list.
+// The `)` of the innermost list.
 fn write_end(w: SoundSerializer, style: SerializerStyle<'_>, buf: &mut [u8]) -> Serializer
     requires { CanMake end_list_call (style_of style) w.serializer buf.old }
     ensures { Makes end_list_call (style_of style.entry) w.serializer buf.old result buf.new }
@@ -112,42 +114,35 @@ fn write_end(w: SoundSerializer, style: SerializerStyle<'_>, buf: &mut [u8]) -> 
     w.behind_end_in_line(at + 1)
 }
 
-// One turn, whose call is known to fit.
-#[inline(always)]
-fn write_turn(
-    writing: Writing<'_>,
-    w: SoundSerializer,
-    buf: &mut [u8],
-    turn: Turn<'_>,
-) -> Serializer
-    requires good { GoodTurn turn }
-    requires accepted { CanMake (turn_call turn writing.break_line_at) (style_of writing.style) w.serializer buf.old }
-    ensures { Makes (turn_call turn.entry writing.entry.break_line_at) (style_of writing.entry.style) w.serializer buf.old result buf.new }
-{
-    let style = writing.style;
-    match turn {
-        Turn::End => write_end(w, style, buf),
-        Turn::List => write_item(w, style, buf, b"(", true, writing.break_line_at),
-        Turn::Atom { bytes, begins } => {
-            write_item(w, style, buf, bytes, false, writing.threshold(begins))
+impl Writing<'_> {
+    // One turn, whose call is known to fit.
+    #[inline(always)]
+    fn write_turn(self, w: SoundSerializer, buf: &mut [u8], turn: Turn<'_>) -> Serializer
+        requires good { GoodTurn turn }
+        requires accepted { CanMake (turn_call turn self.break_line_at) (style_of self.style) w.serializer buf.old }
+        ensures { Makes (turn_call turn.entry self.entry.break_line_at) (style_of self.entry.style) w.serializer buf.old result buf.new }
+    {
+        let style = self.style;
+        match turn {
+            Turn::End => write_end(w, style, buf),
+            Turn::List => write_item(w, style, buf, b"(", true, self.break_line_at),
+            Turn::Atom { bytes, begins } => {
+                write_item(w, style, buf, bytes, false, self.threshold(begins))
+            }
         }
     }
-}
 
-// Writes the tree's calls, and answers where they end. A walk of its own beside measure_nodes: one walk with an argument that says whether it writes was built,
-// and wrote at 0.74 to 0.79 of the speed of two (docs/DECISIONS.md, "Measured, then written").
-pub(crate) fn write_nodes(writing: Writing<'_>, serializer: Serializer, buf: &mut [u8]) -> usize
-    requires { Writable (style_of writing.style) buf.old serializer writing.tree.text.now writing.tree.table.now writing.break_line_at }
-    ensures { WritesNodes (style_of writing.entry.style) buf.old serializer writing.entry.tree.text.now writing.entry.tree.table.now writing.entry.break_line_at result buf.new }
-{
-    let mut w = serializer.by_fields();
-    let mut due = Some(Place::start(writing.tree));
-    while let Some(place) = due {
-        let turn = place.turn(writing.tree);
-        let sound = SoundSerializer { serializer: w };
-        let next = write_turn(writing, sound, buf, turn);
-        w = next.by_fields();
-        due = place.pass(writing.tree, turn);
+    // Writes the tree's calls, and answers where they end. A loop of its own beside measure_nodes: one loop with an argument that says whether it writes was
+    // built, and wrote at 0.74 to 0.79 of the speed of two (docs/DECISIONS.md, "Measured, then written").
+    pub(crate) fn write_nodes(self, serializer: Serializer, buf: &mut [u8]) -> usize
+        requires { Writable (style_of self.style) buf.old serializer self.tree.text.now self.tree.table.now self.break_line_at }
+        ensures { WritesNodes (style_of self.entry.style) buf.old serializer self.entry.tree.text.now self.entry.tree.table.now self.entry.break_line_at result buf.new }
+    {
+        let mut w = serializer.by_fields();
+        for turn in Walk::new(self.tree) {
+            let sound = SoundSerializer { serializer: w };
+            w = self.write_turn(sound, buf, turn).by_fields();
+        }
+        w.position
     }
-    w.position
 }

@@ -1,18 +1,16 @@
-// One writing of a tree, with or without a finish behind it: measured, written and committed. A walk finds out first whether all of it fits, so that a refusal
-// leaves the buffer, and another one writes.
+// One writing of a tree, with or without a finish behind it: measured, written and committed. Whether all of it fits is known before a byte is written, so that
+// a refusal leaves the buffer: one walk plans the calls, and another one writes them.
 ghost use Rattle.std.specs.Prelude.{◌≡◌};
 ghost use Rattle.sise_serializer.specs.Parts.{wrote_of};
-ghost use Rattle.sise_tree_writer.specs.Answers.{refusal_of};
-ghost use Rattle.sise_tree_writer.specs.SerializeTree.{is_over, DoesWrite};
+ghost use Rattle.sise_tree_writer.specs.SerializeTree.{DoesWrite};
 ghost use Rattle.sise_tree_writer.specs.Writing.{IsWritten, writes, tree_alone, PlansWriting, line_of};
 ghost use Rattle.sise_tree_writer.specs.Sizes.{MeasuresWriting, CommitsWriting};
 
-use crate::measure::{behind, measure_nodes};
+use crate::measure::behind;
 use crate::serialize::WriteTreeError;
 use crate::size::{TreeSize, is_size, size_between};
-use crate::write::write_nodes;
-use sise_serializer::{Phase, Placed, Serializer, SerializerStyle, SoundSerializer, paste};
-use sise_tree::{LONGEST, TableError, TreeTable};
+use sise_serializer::{Placed, Serializer, SerializerStyle, SoundSerializer, paste};
+use sise_tree::{LONGEST, TreeTable};
 
 // What is written: the tree that a table holds, in a style and at a threshold, and a finish behind it, with a line break or without, or none. `finish` is None,
 // or Some of a public call's `final_break`: an enum of three would be made of that bool and turned back into it for plan_finish and final_break.
@@ -22,25 +20,6 @@ pub(crate) struct Writing<'a> {
     pub(crate) tree: TreeTable<'a>,
     pub(crate) break_line_at: u64,
     pub(crate) finish: Option<bool>,
-}
-
-// Whether no item may follow.
-fn is_over(phase: Phase) -> bool
-    ensures { result ≡ is_over phase }
-{
-    matches!(phase, Phase::Finished | Phase::Done)
-}
-
-// A table that holds no tree of atoms is refused for the same reason.
-impl From<TableError> for WriteTreeError {
-    ghost from_gives = { λ error e. e ≡ refusal_of error };
-
-    fn from(error: TableError) -> WriteTreeError {
-        match error {
-            TableError::NotATree => WriteTreeError::NotATree,
-            TableError::NoAtom => WriteTreeError::InvalidAtom,
-        }
-    }
 }
 
 impl<'a> Writing<'a> {
@@ -79,10 +58,10 @@ impl<'a> Writing<'a> {
             return Err(WriteTreeError::UnsoundRecord);
         }
         self.tree.holds_tree()?;
-        if is_over(serializer.phase) {
+        if serializer.phase.is_over() {
             return Err(WriteTreeError::WritingFinished);
         }
-        measure_nodes(self, serializer, room).ok_or(WriteTreeError::NoRoom)
+        self.measure_nodes(serializer, room)
     }
 
     // What the tree and the finish come to.
@@ -96,8 +75,7 @@ impl<'a> Writing<'a> {
         let sound = SoundSerializer {
             serializer: nodes.serializer,
         };
-        let planned = behind(sound.plan_finish(self.style, room, final_break));
-        let last = planned.ok_or(WriteTreeError::NoRoom)?;
+        let last = behind(sound.plan_finish(self.style, room, final_break))?;
         Ok(Placed {
             serializer: last,
             ..nodes
@@ -121,7 +99,7 @@ impl<'a> Writing<'a> {
         requires { IsWritten (writes self buf.old serializer) }
         ensures { buf.new ≡ (writes self.entry buf.old serializer).buffer }
     {
-        let end = write_nodes(self, serializer, buf);
+        let end = self.write_nodes(serializer, buf);
         if let Some(final_break) = self.finish {
             paste(buf, end, self.style.final_break(final_break));
         }

@@ -3,11 +3,10 @@
 use mathlib.Core.Path.{◌≡◌, refl, sym, ap, ◌∙◌}
 use mathlib.Core.Bool.{true, false}
 use mathlib.Core.List.{List, [], ◌∷◌}
-use Prim.Native.Nat.{ℕ, zero, suc, ◌+◌, ◌≤◌, ◌<◌}
+use Prim.Native.Nat.{ℕ, zero, suc, ◌≤◌}
 use lib.Dec.{eqb}
 use native.Mathlib.Omega.{arith}
-use native.Mathlib.Numerals.{add-one}
-use lib.ListN.{length, take, drop, get_or, drop_of_length-le}
+use lib.ListN.{length, take, drop, drop_of_length-le}
 use lib.Seq.{take-length}
 use Rattle.sise_util.specs.Chars.{is_atom_chr}
 use Rattle.sise_util.specs.Atom.{outside, is_atom, all_atom_chrs, has_quote, is_string, kind_of}
@@ -22,14 +21,10 @@ use Rattle.sise_util.proofs.KindLaws.{kind_plain}
 no_quote : (b : ℕ) → is_atom_chr b ≡ true → eqb b 34 ≡ false
 no_quote b h = not_at is_atom_chr 34 b (unfold is_atom_chr in refl) h
 
-chrs_on : (s : List ℕ) (n : ℕ) → n < length s → all_atom_chrs (take n s) ≡ true → is_atom_chr (get_or s n 0) ≡ true → all_atom_chrs (take (suc n) s) ≡ true
-chrs_on [] n h a b = absurd (omega arith)
-chrs_on (c ∷ l) zero h a b = both (is_atom_chr c) true b refl
-chrs_on (c ∷ l) (suc n) h a b = both (is_atom_chr c) (all_atom_chrs (take (suc n) l)) (and_first (is_atom_chr c) (all_atom_chrs (take n l)) a) (chrs_on l n (omega arith) (and_second (is_atom_chr c) (all_atom_chrs (take n l)) a) b)
-
--- one byte more
-pub plain_on : {s : List ℕ} {n : ℕ} → PlainTo s n → n < length s → is_atom_chr (get_or s n 0) ≡ true → PlainTo s (n + 1)
-plain_on {s} {n} p h b = record { within = omega arith; chrs = rw add-one (chrs_on s n h p.chrs b) }
+pub run_chrs : (s : List ℕ) (n : ℕ) → PlainTo s n → all_atom_chrs (take n s) ≡ true
+run_chrs s zero p = refl
+run_chrs [] (suc n) p = refl
+run_chrs (b ∷ l) (suc n) p = both (is_atom_chr b) (all_atom_chrs (take n l)) (p.1 0 (omega arith)) (run_chrs l n (omega (arith, p.0), λ i h. p.1 (suc i) (omega arith)))
 
 -- a `"` can only stand behind them
 pub quotes_after : (s : List ℕ) (n : ℕ) → all_atom_chrs (take n s) ≡ true → has_quote s ≡ has_quote (drop n s)
@@ -59,5 +54,7 @@ all_plain s h a =
     let none = drop_of_length-le s all in
     kind_plain s (sym (some_atom s h) ∙ sym (plain_passes s (length s) c) ∙ ap outside none) (quotes_after s (length s) c ∙ ap has_quote none)
 
-pub plain_all : {s : List ℕ} {n : ℕ} → PlainTo s n → (n ≡ 0 → ⊥) → n ≡ length s → Some Plain ≡ kind_of s
-plain_all {s} {n} p z e = all_plain s (λ y. z (e ∙ y)) (sym (ap all_atom_chrs (ap (λ (m : ℕ). take m s) e ∙ take-length s)) ∙ p.chrs)
+pub plain_all : (s : List ℕ) (n : ℕ) → PlainTo s n → length s ≤ n → (length s ≡ 0 → ⊥) → Some Plain ≡ kind_of s
+plain_all s n p h z =
+    let e : n ≡ length s = omega (arith, p.0) in
+    all_plain s z (sym (ap all_atom_chrs (ap (λ (m : ℕ). take m s) e ∙ take-length s)) ∙ run_chrs s n p)

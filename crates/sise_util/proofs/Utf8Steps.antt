@@ -6,12 +6,11 @@ use mathlib.Core.List.{List, [], ◌∷◌}
 use Prim.Native.Nat.{ℕ, zero, suc, ◌+◌, ◌-◌, ◌*◌, ◌≤◌, ◌<◌}
 use native.Mathlib.Omega.{arith}
 use lib.Dec.{leb, ltb}
-use lib.ListN.{length, take, drop, get_or, drop_of_length-le, get_or-eq_default}
+use lib.ListN.{length, take, drop, get_or, drop_of_length-le}
 use borrow.Author.Tests.{le-leb, leb-true, ltb-true, ltb-false}
 use Rattle.std.specs.Prelude.{Result}
 use Rattle.sise_util.specs.Chars.{within}
-use Rattle.sise_util.specs.Parts.{OctetAt, FirstTwo}
-use Rattle.sise_util.specs.Utf8.{Range, range, Form, form, forms, well, ill, follow, by_rows, character}
+use Rattle.sise_util.specs.Utf8.{Range, range, Form, form, forms, ill, follow, by_rows, character}
 use Rattle.sise_util.specs.declared.utf8.Character.{Character}
 use Rattle.sise_util.specs.declared.utf8.IllFormed.{IllFormed}
 use Rattle.sise_util.proofs.Lists.{drop-next}
@@ -32,30 +31,23 @@ within_to lo hi b e = leb-true b hi (and_second (leb lo b) (leb b hi) e)
 pub within_no : (lo hi b : ℕ) → (lo ≤ b → b ≤ hi → ⊥) → within lo hi b ≡ false
 within_no lo hi b d = split (within lo hi b) (λ e. absurd (d (within_from lo hi b e) (within_to lo hi b e))) (λ e. e)
 
-stands_next : {text : List ℕ} {at o : ℕ} → OctetAt text at o → at < length text → drop at text ≡ o ∷ drop (at + 1) text
-stands_next {text} {at} s h = drop-next text at h ∙ ap (λ (b : ℕ). b ∷ drop (at + 1) text) (sym s.stands)
+-- the octet at a place, and the range that is due there
+module _ (text : List ℕ) (at lo hi c n : ℕ) (rs : List Range) where
+  abbrev octet : ℕ
+  octet = get_or text at 0
 
--- an octet in the range that is due: the definition goes on with its bits
-pub hit : {text : List ℕ} {at o : ℕ} → OctetAt text at o → (lo hi : ℕ) → 0 < lo → lo ≤ o → o ≤ hi → (c n : ℕ) (rs : List Range)
-    → follow c n (range lo hi ∷ rs) (drop at text) ≡ follow (c * 64 + (o - 0x80)) n rs (drop (at + 1) text)
-unfolding follow
-hit {text} {at} {o} s lo hi p from to c n rs =
-    split (ltb at (length text))
-    (λ t. ap (follow c n (range lo hi ∷ rs)) (stands_next s (ltb-true at (length text) t)) ∙ rw (within_yes lo hi o from to, follow))
-    (λ t. absurd (let z : o ≡ 0 = s.stands ∙ get_or-eq_default text 0 (ltb-false at (length text) t) in omega arith))
+  -- the octet is in the range: the definition goes on with its bits
+  pub hit : at < length text → lo ≤ octet → octet ≤ hi → follow c n (range lo hi ∷ rs) (drop at text) ≡ follow (c * 64 + (octet - 0x80)) n rs (drop (at + 1) text)
+  unfolding follow
+  hit h from to = ap (follow c n (range lo hi ∷ rs)) (drop-next text at h) ∙ rw (within_yes lo hi octet from to, follow)
 
--- out of the range: the octets before it are the start
-pub miss : {text : List ℕ} {at o : ℕ} → OctetAt text at o → (lo hi : ℕ) → (lo ≤ o → o ≤ hi → ⊥) → (c n : ℕ) (rs : List Range)
-    → ill (n - suc (length rs)) ≡ follow c n (range lo hi ∷ rs) (drop at text)
-unfolding follow
-miss {text} {at} {o} s lo hi d c n rs =
-    split (ltb at (length text))
-    (λ t. sym (ap (follow c n (range lo hi ∷ rs)) (stands_next s (ltb-true at (length text) t)) ∙ rw (within_no lo hi o d, follow)))
-    (λ t. sym (ap (follow c n (range lo hi ∷ rs)) (drop_of_length-le text (ltb-false at (length text) t))))
-
-pub ends : (c n : ℕ) (l : List ℕ) → follow c n [] l ≡ well c n
-unfolding follow
-ends c n l = refl
+  -- it is out of the range, or there is none: the octets before it are the start
+  pub miss : (at < length text → lo ≤ octet → octet ≤ hi → ⊥) → ill (n - suc (length rs)) ≡ follow c n (range lo hi ∷ rs) (drop at text)
+  unfolding follow
+  miss d =
+      split (ltb at (length text))
+      (λ t. let h = ltb-true at (length text) t in sym (ap (follow c n (range lo hi ∷ rs)) (drop-next text at h) ∙ rw (within_no lo hi octet (d h), follow)))
+      (λ t. sym (ap (follow c n (range lo hi ∷ rs)) (drop_of_length-le text (ltb-false at (length text) t))))
 
 -- which row it is: the first octet says
 
@@ -89,32 +81,57 @@ unfolding by_rows
 no_row [] b l o = refl
 no_row (f ∷ fs) b l o = no_row fs b l o.1 ∙ sym (rw (within_no f.first.lo f.first.hi b o.0, by_rows))
 
--- by the first two octets: the row k has the first, or none has it
-module _ {l : List ℕ} {lead second : ℕ} (s : FirstTwo l lead second) where
+-- by the first two octets of some bytes: the row k has the first, or none has it
+module _ (l : List ℕ) (some : 0 < length l) where
+  abbrev lead : ℕ
+  lead = get_or l 0 0
+
   pub row_at : (k : ℕ) → Outside lead (take k forms) → Begins lead (row k) → row_of (row k) lead (drop 1 l) ≡ character l
   unfolding character
-  row_at k o i = nth_row forms k lead (drop 1 l) o i ∙ ap (by_rows forms) (sym (stands_next s.first s.some))
+  row_at k o i = nth_row forms k lead (drop 1 l) o i ∙ ap (by_rows forms) (sym (drop-next l 0 some))
 
   pub no_row_at : Outside lead forms → ill 1 ≡ character l
   unfolding character
-  no_row_at o = no_row forms lead (drop 1 l) o ∙ ap (by_rows forms) (sym (stands_next s.first s.some))
+  no_row_at o = no_row forms lead (drop 1 l) o ∙ ap (by_rows forms) (sym (drop-next l 0 some))
 
-  -- the second is in the row's range: the row goes on
-  pub goes_on : (k : ℕ) {r : Range} {rs : List Range} → (row k).rest ≡ r ∷ rs → Outside lead (take k forms) → Begins lead (row k) → (0 < r.lo) × (r.lo ≤ second) × (second ≤ r.hi)
-      → follow ((lead - (row k).mark) * 64 + (second - 0x80)) (1 + length (row k).rest) rs (drop 2 l) ≡ character l
-  goes_on k {r} {rs} e o i (p, from, to) =
-      sym (ap (λ (m : List Range). follow (lead - (row k).mark) (1 + length (row k).rest) m (drop 1 l)) e
-      ∙ hit s.next r.lo r.hi p from to (lead - (row k).mark) (1 + length (row k).rest) rs)
-      ∙ row_at k o i
+  module _ (k : ℕ) {r : Range} {rs : List Range} (e : (row k).rest ≡ r ∷ rs) (o : Outside lead (take k forms)) (i : Begins lead (row k)) where
+    begun : follow (lead - (row k).mark) (1 + length (row k).rest) (r ∷ rs) (drop 1 l) ≡ character l
+    begun = ap (λ (m : List Range). follow (lead - (row k).mark) (1 + length (row k).rest) m (drop 1 l)) (sym e) ∙ row_at k o i
 
-  -- it is not
-  pub stops : (k : ℕ) {r : Range} {rs : List Range} → (row k).rest ≡ r ∷ rs → Outside lead (take k forms) → Begins lead (row k) → (r.lo ≤ second → second ≤ r.hi → ⊥) → ill 1 ≡ character l
-  stops k {r} {rs} e o i d =
-      ap ill (let z = ap length e in omega arith)
-      ∙ miss s.next r.lo r.hi d (lead - (row k).mark) (1 + length (row k).rest) rs
-      ∙ sym (ap (λ (m : List Range). follow (lead - (row k).mark) (1 + length (row k).rest) m (drop 1 l)) e)
-      ∙ row_at k o i
+    -- the second is in the row's range: the row goes on
+    pub goes_on : 1 < length l → r.lo ≤ get_or l 1 0 → get_or l 1 0 ≤ r.hi → follow ((lead - (row k).mark) * 64 + (get_or l 1 0 - 0x80)) (1 + length (row k).rest) rs (drop 2 l) ≡ character l
+    goes_on h from to = sym (hit l 1 r.lo r.hi (lead - (row k).mark) (1 + length (row k).rest) rs h from to) ∙ begun
 
-pub none_at : (text : List ℕ) (at : ℕ) → length text ≤ at → ill 0 ≡ character (drop at text)
+    -- it is not, or there is none
+    pub stops : (1 < length l → r.lo ≤ get_or l 1 0 → get_or l 1 0 ≤ r.hi → ⊥) → ill 1 ≡ character l
+    stops d =
+        ap ill (let z = ap length e in omega arith)
+        ∙ miss l 1 r.lo r.hi (lead - (row k).mark) (1 + length (row k).rest) rs d
+        ∙ begun
+
+-- at the end there is none
+pub none : (l : List ℕ) → length l < 1 → ill 0 ≡ character l
 unfolding character by_rows forms
-none_at text at h = ap (by_rows forms) (sym (drop_of_length-le text h))
+none [] h = refl
+none (b ∷ l) h = absurd (omega arith)
+
+-- a first octet alone, of a row with more: one byte
+none_follows : (c : ℕ) (rs : List Range) → 0 < length rs → follow c (1 + length rs) rs [] ≡ ill 1
+unfolding follow
+none_follows c [] h = absurd (omega arith)
+none_follows c (r ∷ rs) h = ap ill (omega arith)
+
+abbrev Longer : List Form → Type 0
+Longer [] = Unit {0}
+Longer (f ∷ fs) = (0 < length f.rest) × Longer fs
+
+lone : (fs : List Form) (b : ℕ) → Longer fs → ill 1 ≡ by_rows fs (b ∷ [])
+unfolding by_rows
+lone [] b o = refl
+lone (f ∷ fs) b o = split (within f.first.lo f.first.hi b) (λ t. sym (rw (t, by_rows) (none_follows (b - f.mark) f.rest o.0))) (λ t. lone fs b o.1 ∙ sym (rw (t, by_rows)))
+
+pub alone : (l : List ℕ) → length l ≡ 1 → 0x80 ≤ get_or l 0 0 → ill 1 ≡ character l
+unfolding character by_rows forms
+alone [] e h = absurd (omega arith)
+alone (b ∷ []) e h = lone (drop 1 forms) b (omega arith) ∙ sym (rw (within_no 0x00 0x7F b (λ from to. omega arith), by_rows))
+alone (b ∷ c ∷ l) e h = absurd (omega arith)

@@ -1,4 +1,5 @@
-// The classes of bytes, by which the reader goes from state to state. Those that share an arm of a `match` of the reader have no neighbouring
+// The classes of bytes, which the definition of the reader goes by from state to state; the code asks for one inside strings and comments, and the names are
+// those that it asks for there. Those that share an arm of a `match` of the reader have no neighbouring
 // numbers: neighbours would become a test of a range, and the arms' order would be another.
 // They are numbers and no enum: document 01 asks for a constant array of 256 class numbers.
 ghost use Rattle.std.specs.Prelude.{◌≡◌};
@@ -19,7 +20,10 @@ pub const OTHER: u8 = 6;
 // A class number for each byte.
 pub type ClassTable = [u8; 256];
 
-// The whole table, for a caller that looks up many bytes: a constant array is built anew at each use.
+// The table as a static: one array in memory, where the constant is built anew at each use.
+static TABLE: ClassTable = CLASSES;
+
+// The whole table, for a caller that looks up many bytes: it is copied once.
 pub fn classes() -> ClassTable
     ensures { result ≡ class_table }
 {
@@ -30,6 +34,5 @@ pub fn classes() -> ClassTable
 pub fn class_of(chr: u8) -> u8
     ensures { result ≡ class_number (class_of chr) }
 {
-    let table = classes();
-    table[chr as usize]
+    TABLE[chr as usize]
 }

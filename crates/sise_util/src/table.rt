@@ -1,5 +1,6 @@
-// The class of each byte, by its number in classes.rt. The rule that it follows is `class_table` of specs/Classes.antt.
-pub const CLASSES: [u8; 256] = [
+// The class of each byte, by the number that `class_number` of specs/Classes.antt gives it; the rule that it follows is `class_table` there. It has a file of
+// its own, since its name and that of the function `classes` differ in case alone.
+pub(crate) const CLASSES: [u8; 256] = [
     6, 6, 6, 6, 6, 6, 6, 6, 6, 2, 4, 6, 6, 4, 6, 6, 6, 6, 6, 6, 6, 6, 6, 6, 6, 6, 6, 6, 6, 6, 6, 6,
     0, 3, 1, 3, 3, 3, 3, 10, 8, 9, 3, 3, 10, 3, 3, 3, 3, 3, 3, 3, 3, 3, 3, 3, 3, 3, 3, 7, 3, 3, 3,
     3, 3, 3, 3, 3, 3, 3, 3, 3, 3, 3, 3, 3, 3, 3, 3, 3, 3, 3, 3, 3, 3, 3, 3, 3, 3, 3, 3, 10, 5, 10,

@@ -3,4 +3,4 @@ use Rattle.script.proofs.Laws.{text_past}
 use Rattle.replay_reader.proofs.run.Goals as goal
 
 pub returns : goal.returns
-returns c = text_past _ c.in_ok-case.case c.in_ok-case.ensures
+returns c = text_past _ c.in_ok-read_text_case.field-0 c.in_ok-read_text_case.ensures

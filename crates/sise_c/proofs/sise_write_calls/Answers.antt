@@ -17,4 +17,4 @@ handed_on t = (
 )
 
 pub returns : goal.returns
-returns c = let p = handed_on c.write_calls-all.ensures in record { writes = p.0; ran = p.1 }
+returns c = let p = handed_on (rw c.new-style.ensures at c.write_calls-all.ensures) in record { writes = p.0; ran = p.1 }

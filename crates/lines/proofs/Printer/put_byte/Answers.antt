@@ -3,7 +3,7 @@ use Rattle.std.proofs.Common.{◌≡◌, ◌∙◌, ℕ, ◌+◌, ◌<◌, ◌�
 use Rattle.std.proofs.lemmas.Bool.{cond_below, cond_above}
 use Rattle.lines.specs.Put.{Output, output, place_in, put_byte, put}
 use Rattle.lines.proofs.Printer.put_byte.Goals as goal
-use Rattle.lines.proofs.Printer.put_byte.Goals.{then-is_full, else-is_full}
+use Rattle.lines.proofs.Printer.put_byte.Goals.{then-self-ge4096, else-self-ge4096}
 
 placed : (o q : Output) (byte : ℕ) → q ≡ output (place_in o) o.bytes → output (q.place + 1) (slice_set q.bytes q.place byte) ≡ put o (byte ∷ [])
 unfolding put put_byte
@@ -21,7 +21,7 @@ pub returns : goal.returns
 returns c =
     placed _ _ _
     (c.self-2.view_is
-    ∙ elim c.if-is_full.branch [
-      | then-is_full w ↦ w.self-is ∙ w.flush.ensures ∙ next_block _ (search rules)
-      | else-is_full w ↦ w.self-is ∙ in_block _ (search rules)
+    ∙ elim c.if-self-ge4096.branch [
+      | then-self-ge4096 w ↦ w.self-is ∙ w.flush.ensures ∙ next_block _ (search rules)
+      | else-self-ge4096 w ↦ w.self-is ∙ in_block _ (search rules)
     ])

@@ -34,7 +34,7 @@ found end v i {s} {t} bs e f l g p a n b = record {
 pub loop-at-preserved : goal.loop-at-preserved
 loop-at-preserved c =
     let m =
-    more _ _ (search rules) c.loop-at.invariant.1 c.loop-at.invariant.2 c.if-value-gt99999999.false
+    more _ _ (search rules) c.loop-at.invariant.1 c.loop-at.invariant.2 c.if-value.false
     (digit_of (get_or c.self.inside.rest.now c.loop-at.at 0) c.to_digit.ensures.value c.in_ok-digit.ensures.ok_part) in
     (c.loop-at.invariant.0, m.0, m.1, m.2)
 

@@ -2,13 +2,13 @@
 use mathlib.Core.Path.{◌≡◌, sym, ap}
 use Prim.Native.Nat.{ℕ}
 use Rattle.sise_parser.specs.Refusals.{refusal}
-use Rattle.sise_parser.specs.Meaning.{place_number}
-use Rattle.sise_parser.specs.declared.lexer.Place.{Place}
+use Rattle.sise_parser.specs.Meaning.{context_number}
+use Rattle.sise_parser.specs.declared.lexer.Context.{Context}
 use Rattle.sise_parser.proofs.lexer.illegal_chr.Goals as goal
 
--- the number of a place that is known
-known : {p q : Place} (pos chr : ℕ) → p ≡ q → refusal (place_number q) pos chr ≡ refusal (place_number p) pos chr
-known pos chr e = ap (λ (x : Place). refusal (place_number x) pos chr) (sym e)
+-- the number of a context that is known
+known : {p q : Context} (pos chr : ℕ) → p ≡ q → refusal (context_number q) pos chr ≡ refusal (context_number p) pos chr
+known pos chr e = ap (λ (x : Context). refusal (context_number x) pos chr) (sym e)
 
 pub returns-in-Outside : goal.returns-in-Outside
 returns-in-Outside c = known _ _ c.in-Outside.is

@@ -54,4 +54,4 @@ returns-in_err-lex_string c =
 pub returns : goal.returns
 returns c =
     let q = eqb-false (get_or c.args.text.now c.loop-at.at 0) 34 (sym c.is_quote_at.ensures ∙ c.loop-at-test.false) in
-    sym (c.loop-at.invariant.same ∙ run_ends c.loop-at.invariant.ran.1 q _)
+    c.found.ensures ∙ sym (c.loop-at.invariant.same ∙ run_ends c.loop-at.invariant.ran.1 q _)

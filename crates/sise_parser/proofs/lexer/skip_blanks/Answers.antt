@@ -20,8 +20,11 @@ loop-at-preserved c =
     let y = sym c.is_blank.ensures ∙ c.if-not-is_blank.false in
     record { after = omega (arith, v.after); within = omega arith; same = v.same ∙ blanks_on _ _ c.loop-at-test.true y; token = v.token ∙ between_on _ _ c.loop-at-test.true y }
 
-pub returns-then-not-is_blank-clause-same : goal.returns-then-not-is_blank-clause-same
-returns-then-not-is_blank-clause-same c = sym (c.loop-at.invariant.same ∙ blanks_stop _ _ c.loop-at-test.true (sym c.is_blank.ensures ∙ c.if-not-is_blank.true))
+pub returns-then-not-is_blank : goal.returns-then-not-is_blank
+returns-then-not-is_blank c =
+    let v = c.loop-at.invariant in
+    let n = sym c.is_blank.ensures ∙ c.if-not-is_blank.true in
+    record { same = sym (v.same ∙ blanks_stop _ _ c.loop-at-test.true n); after = v.after; token = v.token; stop = λ _. n }
 
 -- behind the last byte, or where the call began if that is past it
 at_end : {text : List ℕ} {from at r : ℕ} → Skipped text from at → length text ≤ at → r ≡ max from (length text) → at ≡ r
@@ -32,4 +35,4 @@ returns c =
     let v = c.loop-at.invariant in
     let u = c.loop-at-test.false in
     let e = at_end v u c.max.ensures in
-    record { same = sym (v.same ∙ blanks_end _ u ∙ e); after = omega (arith, v.after, e); token = v.token ∙ ap (λ (p : ℕ). between (drop p c.args.text.now) p) e }
+    record { same = sym (v.same ∙ blanks_end _ u ∙ e); after = omega (arith, v.after, e); token = v.token ∙ ap (λ (p : ℕ). between (drop p c.args.text.now) p) e; stop = λ l. absurd (omega (arith, u, e)) }

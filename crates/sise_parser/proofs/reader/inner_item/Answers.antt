@@ -6,41 +6,31 @@ use Rattle.sise_parser.specs.Lexer.{found, closing}
 use Rattle.sise_parser.specs.Reader.{next, reader, item, in_parsing}
 use Rattle.sise_parser.specs.Meaning.{token_as}
 use Rattle.sise_parser.specs.declared.lexer.Token.{Token}
-use Rattle.sise_parser.specs.declared.reader.Phase.{Phase}
 use Rattle.sise_parser.specs.declared.reader.Phase.TheVariants.{Parsing, Finishing}
 use Rattle.sise_parser.specs.declared.reader.ParsedItem.TheVariants.{ListEnd}
+use Rattle.sise_parser.proofs.Calls.{handed_back}
 use Rattle.sise_parser.proofs.reader.inner_item.Goals as goal
-use Rattle.sise_parser.proofs.reader.inner_item.Goals.{then-lists-eq1, else-lists-eq1}
+use Rattle.sise_parser.proofs.reader.inner_item.Goals.{in-Eof, in-LeftParen, in-RightParen, in-RightParen-2, in-Atom}
 
 known : {t u : Token} (n s p : ℕ) → t ≡ u → in_parsing n (found (token_as u) s p) ≡ in_parsing n (found (token_as t) s p)
 known n s p e = ap (λ (v : Token). in_parsing n (found (token_as v) s p)) (sym e)
 
-last-closed : {f : Phase} (n s p : ℕ) → n ≡ 1 → f ≡ Finishing → next (reader p f (n - 1)) (item (ListEnd s)) ≡ in_parsing n (found closing s p)
+last-closed : (n s p : ℕ) → n ≡ 1 → next (reader p Finishing 0) (item (ListEnd s)) ≡ in_parsing n (found closing s p)
 unfolding in_parsing
-last-closed n s p e d = rw (d, e)
+last-closed n s p e = rw e
 
-one_closed : {f : Phase} (n s p : ℕ) → (n ≡ 1 → ⊥) → f ≡ Parsing → next (reader p f (n - 1)) (item (ListEnd s)) ≡ in_parsing n (found closing s p)
+one_closed : (n s p : ℕ) → (n ≡ 1 → ⊥) → next (reader p Parsing (n - 1)) (item (ListEnd s)) ≡ in_parsing n (found closing s p)
 unfolding in_parsing
-one_closed n s p e d = rw (d, ne_eqb n 1 e)
+one_closed n s p e = rw (ne_eqb n 1 e)
 
-pub returns-in-Eof : goal.returns-in-Eof
+pub returns : goal.returns
 unfolding in_parsing
-returns-in-Eof c = c.answered.ensures ∙ known _ _ _ c.in-Eof.is
-
-pub returns-in-LeftParen : goal.returns-in-LeftParen
-unfolding in_parsing
-returns-in-LeftParen c = c.answered-in-LeftParen.ensures ∙ known _ _ _ c.in-LeftParen.is
-
-pub returns-in-Atom : goal.returns-in-Atom
-unfolding in_parsing
-returns-in-Atom c = c.answered-in-Atom.ensures ∙ known _ _ _ c.in-Atom.is
-
-pub returns-after-lists-eq1 : goal.returns-after-lists-eq1
-unfolding in_parsing
-returns-after-lists-eq1 c =
-    c.answered-in-RightParen.ensures
-    ∙ elim c.if-lists-eq1.branch [
-      | then-lists-eq1 w ↦ last-closed _ _ _ w.if-lists-eq1.true w.phase-is
-      | else-lists-eq1 w ↦ one_closed _ _ _ w.if-lists-eq1.false w.phase-is
+returns c =
+    c.answered.ensures
+    ∙ elim c.match-found.branch [
+      | in-Eof w ↦ handed_back _ w.phase-is ∙ known _ _ _ w.in-Eof.is
+      | in-LeftParen w ↦ handed_back _ w.phase-is ∙ known _ _ _ w.in-LeftParen.is
+      | in-RightParen w ↦ handed_back _ w.phase-is ∙ last-closed _ _ _ w.if-lists-eq1.true ∙ known _ _ _ w.in-RightParen.is
+      | in-RightParen-2 w ↦ handed_back _ w.phase-is ∙ one_closed _ _ _ w.if-lists-eq1.false ∙ known _ _ _ w.in-RightParen.is
+      | in-Atom w ↦ handed_back _ w.phase-is ∙ known _ _ _ w.in-Atom.is
     ]
-    ∙ known _ _ _ c.in-RightParen.is

@@ -8,7 +8,7 @@ use lib.ListN.{length}
 use borrow.Author.Rules.{rules}
 use Rattle.std.specs.Prelude.{replicate}
 use Rattle.sise_serializer.specs.Bytes.{repeat}
-use Rattle.sise_serializer.proofs.Bytes.{pasted_none, pasted_again, pasted_part, repeat_length, repeat_length_more, repeat_repeat, repeat_replicate}
+use Rattle.sise_serializer.proofs.Bytes.{pasted_none, pasted_again, pasted_part, repeat_length, repeat_repeat, repeat_replicate}
 use Rattle.sise_serializer.proofs.buffer.copies.Goals as goal
 
 -- copies of a uniform src
@@ -17,36 +17,36 @@ uniform n b s part h e p =
     p ∙ ap (λ (m : ℕ). replicate m b) e ∙ repeat_replicate (n * length s) b ∙ sym (repeat_repeat n (length s) (b ∷ [])) ∙ ap (repeat n) (sym h)
 
 -- the next copy has room too
-room : (k times at to : ℕ) (s buf : List ℕ) → to ≡ at + length (repeat k s) → k < times → at + times * length s ≤ length buf → to + length s ≤ length buf
-room k times at to s buf e h r = omega (arith, repeat_length k s, mul-le-mul_right (length s) h, suc-mul k (length s))
+room : (k times at : ℕ) (s buf : List ℕ) → k < times → at + times * length s ≤ length buf → at + k * length s + length s ≤ length buf
+room k times at s buf h r = omega (arith, mul-le-mul_right (length s) h, suc-mul k (length s))
 
 pub returns-in-Some : goal.returns-in-Some
 returns-in-Some c =
     let a = c.args in
     pasted_part _ _ _ _ _ (uniform a.times c.in-Some.byte a.src.now _ c.in-Some.ensures (search rules) (c.fill.ensures.after (λ y h. search rules))) (omega (arith, repeat_length a.times a.src.now))
 
-pub loop-init : goal.loop-init
-loop-init c = (sym (pasted_none c.args.buf.now c.args.at), omega arith, refl)
+pub loop-k-init : goal.loop-k-init
+loop-k-init c = (sym (pasted_none c.args.buf.now c.args.at), refl)
+
+pub overflow_mul-k : goal.overflow_mul-k
+overflow_mul-k c = omega (arith, room c.loop-k.k c.args.times c.args.at c.args.src.now c.args.buf.now (omega arith) c.requires)
+
+pub overflow_add-at : goal.overflow_add-at
+overflow_add-at c = omega (arith, room c.loop-k.k c.args.times c.args.at c.args.src.now c.args.buf.now (omega arith) c.requires)
 
 pub copy-requires : goal.copy-requires
-copy-requires c = room c.loop.counter c.args.times c.args.at c.loop.to c.args.src.now c.loop.buf c.loop.invariant.1 c.loop-test.true (omega (arith, c.loop.invariant.2))
+copy-requires c = omega (arith, c.loop-k.invariant.1, room c.loop-k.k c.args.times c.args.at c.args.src.now c.args.buf.now (omega arith) c.requires)
 
-pub overflow_add-to : goal.overflow_add-to
-overflow_add-to c = omega (arith, room c.loop.counter c.args.times c.args.at c.loop.to c.args.src.now c.loop.buf c.loop.invariant.1 c.loop-test.true (omega (arith, c.loop.invariant.2)))
-
-pub loop-preserved : goal.loop-preserved
-loop-preserved c =
-    let l = c.loop in
+pub loop-k-preserved : goal.loop-k-preserved
+loop-k-preserved c =
+    let l = c.loop-k in
     let a = c.args in
-    let h : a.at + length (repeat l.counter a.src.now) ≤ length a.buf.now =
-    omega (arith, room l.counter a.times a.at l.to a.src.now l.buf l.invariant.1 c.loop-test.true (omega (arith, l.invariant.2))) in (
-      c.copy.ensures ∙ rw (l.invariant.0, l.invariant.1) (pasted_again a.buf.now a.at l.counter a.src.now h),
-      omega (arith, repeat_length_more l.counter a.src.now),
-      omega arith,
-    )
+    let size = repeat_length l.k a.src.now in
+    let h : a.at + length (repeat l.k a.src.now) ≤ length a.buf.now = omega (arith, size, room l.k a.times a.at a.src.now a.buf.now (omega arith) c.requires) in
+    (c.copy.ensures ∙ rw (l.invariant.0, ← size) (pasted_again a.buf.now a.at l.k a.src.now h), omega (arith, l.invariant.1))
 
 pub returns : goal.returns
 returns c =
     let a = c.args in
-    let all : c.loop.counter ≡ a.times = omega arith in
-    rw (← all) c.loop.invariant.0
+    let all : c.loop-k.k ≡ a.times = omega arith in
+    rw (← all) c.loop-k.invariant.0

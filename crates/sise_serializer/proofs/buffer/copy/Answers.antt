@@ -1,4 +1,4 @@
--- One byte is stored. Else, before each turn the buffer, of the same length, has the first i bytes of src pasted at `at`; each turn leaves one byte less to go.
+-- One byte is stored. Else, before each turn the buffer, of the same length, has the first i bytes of src pasted at `at`.
 use native.Mathlib.Numerals.{add-one}
 use native.Mathlib.Omega.{arith}
 use mathlib.Core.Path.{◌≡◌, refl, ◌∙◌}
@@ -11,13 +11,13 @@ pub returns-then-src-eq1 : goal.returns-then-src-eq1
 returns-then-src-eq1 c = let a = c.args in pasted_single a.buf.now a.at a.src.now (omega (arith, c.requires, c.if-src-eq1.true)) c.if-src-eq1.true
 
 pub loop-i-init : goal.loop-i-init
-loop-i-init c = let a = c.args in (paste-zero a.buf.now a.at a.src.now, omega arith, refl)
+loop-i-init c = let a = c.args in (paste-zero a.buf.now a.at a.src.now, refl)
 
 pub loop-i-preserved : goal.loop-i-preserved
 loop-i-preserved c =
     let l = c.loop-i in
     let a = c.args in
-    (rw (l.invariant.0, add-one, ← paste-suc a.buf.now a.at a.src.now l.i 0 (omega arith) c.loop-i-test.true), omega arith, simp length-set l.invariant.2)
+    (rw (l.invariant.0, add-one, ← paste-suc a.buf.now a.at a.src.now l.i 0 (omega (arith, l.invariant.1)) (omega arith)), simp length-set l.invariant.1)
 
 pub returns : goal.returns
 returns c =

@@ -1,20 +1,25 @@
--- The tests of the code say whether the bytes have room.
+-- The test of the code says whether the bytes have room.
+use Prim.Native.Nat.{◌+◌}
 use native.Mathlib.Omega.{arith}
-use mathlib.Core.Path.{sym, ◌∙◌}
+use mathlib.Core.Path.{◌≡◌, sym, ◌∙◌}
+use mathlib.Core.Bool.{true, false}
+use lib.Dec.{leb}
+use lib.ListN.{length}
+use borrow.Author.Rules.{rules}
+use borrow.Author.Tests.{leb-true, leb-false}
 use Rattle.sise_serializer.proofs.Bytes.{pasted_if_lem, pasted_not}
 use Rattle.sise_serializer.proofs.buffer.paste.Goals as goal
 
-pub returns-in_default : goal.returns-in_default
-returns-in_default c =
+pub returns-then-is_some_and : goal.returns-then-is_some_and
+returns-then-is_some_and c =
     let a = c.args in
-    sym (pasted_not a.buf.now a.at a.src.now (omega (arith, c.in_default.ensures)))
+    let e : c.is_some_and.result ≡ leb (a.at + length a.src.now) (length a.buf.now) = search rules in
+    let t : leb (a.at + length a.src.now) (length a.buf.now) ≡ true = sym e ∙ c.if-is_some_and.true in
+    c.copy.ensures ∙ sym (pasted_if_lem a.buf.now a.at a.src.now (omega (arith, leb-true)))
 
-pub returns-then-src-left : goal.returns-then-src-left
-returns-then-src-left c =
+pub returns-else-is_some_and : goal.returns-else-is_some_and
+returns-else-is_some_and c =
     let a = c.args in
-    c.copy.ensures ∙ sym (pasted_if_lem a.buf.now a.at a.src.now (omega (arith, c.in-Some.ensures, c.if-src-left.true)))
-
-pub returns-else-src-left : goal.returns-else-src-left
-returns-else-src-left c =
-    let a = c.args in
-    sym (pasted_not a.buf.now a.at a.src.now (omega (arith, c.in-Some.ensures, c.if-src-left.false)))
+    let e : c.is_some_and.result ≡ leb (a.at + length a.src.now) (length a.buf.now) = search rules in
+    let t : leb (a.at + length a.src.now) (length a.buf.now) ≡ false = sym e ∙ c.if-is_some_and.false in
+    sym (pasted_not a.buf.now a.at a.src.now (omega (arith, leb-false)))

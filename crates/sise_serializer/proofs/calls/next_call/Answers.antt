@@ -8,10 +8,13 @@ returns-in_err-four c = rw c.from_residual.ensures (decoded_short c.args.words.n
 
 pub returns-in_err-call : goal.returns-in_err-call
 returns-in_err-call c =
+    let h = c.in_ok-four.ensures.cases in
     rw c.from_residual-in_err-call.ensures
-    (decoded_four c.args.words.now c.in_ok-four.four.now c.in_ok-four.behind.now c.args.atoms.now c.in_ok-four.ensures.cases ∙ rw c.in_err-call.ensures refl)
+    (decoded_four c.args.words.now c.in_ok-four.four.now c.in_ok-four.behind.now c.args.atoms.now h ∙ rw c.in_err-call.ensures refl)
 
 pub returns : goal.returns
 returns c =
-    let h = c.in_ok-four.ensures.cases in
-    (decoded_four c.args.words.now c.in_ok-four.four.now c.in_ok-four.behind.now c.args.atoms.now h ∙ rw (c.in_ok-call.ensures.0, c.in_ok-call.ensures.1) refl, h.2)
+    let h = c.in_ok-four.ensures.cases in (
+      decoded_four c.args.words.now c.in_ok-four.four.now c.in_ok-four.behind.now c.args.atoms.now h ∙ rw (c.in_ok-call.ensures.0, c.in_ok-call.ensures.1) refl,
+      h.1,
+    )

@@ -15,4 +15,4 @@ pub put_planned-requires-clause-room : goal.put_planned-requires-clause-room
 put_planned-requires-clause-room c = let f = c.in_ok-planned.ensures in omega (arith, f.in_room)
 
 pub returns : goal.returns
-returns c = let a = c.args in carried_out (style_of a.style) a.w.serializer [] a.buf.now c.in_ok-planned.ensures c.put_planned.ensures
+returns c = let a = c.args in rw c.put_planned.ensures.placed (carried_out (style_of a.style) a.w.serializer [] a.buf.now c.in_ok-planned.ensures c.put_planned.ensures.bytes)

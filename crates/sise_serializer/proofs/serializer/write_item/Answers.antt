@@ -20,4 +20,4 @@ pub returns : goal.returns
 returns g c =
     let a = c.args in
     let token = g.T.Token.bytes a.token in
-    rw (← c.is_list.ensures) (carried_out (style_of a.style) a.w.serializer token a.buf.now (c.in_ok-planned.ensures token (sym c.len.ensures)) c.put_planned.ensures)
+    rw (← c.is_list.ensures, c.put_planned.ensures.placed) (carried_out (style_of a.style) a.w.serializer token a.buf.now (c.in_ok-planned.ensures token (sym c.len.ensures)) c.put_planned.ensures.bytes)

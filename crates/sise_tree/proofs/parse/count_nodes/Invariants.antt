@@ -5,8 +5,8 @@ use Rattle.sise_tree.specs.ParseTree.{Frames}
 use Rattle.sise_tree.specs.Filling.{Counts}
 use Rattle.sise_tree.proofs.parse.count_nodes.Given as goal
 
-abbrev pub invariant-loop-item : goal.invariant-loop-item
-invariant-loop-item l = (f : Frames) × Counts l.text l.initial.r f l.r l.depth l.nodes
+abbrev pub invariant-loop-nodes : goal.invariant-loop-nodes
+invariant-loop-nodes l = (f : Frames) × Counts l.text l.initial.reader f l.reader l.depth l.nodes
 
-abbrev pub decreases-loop-item : goal.decreases-loop-item
-decreases-loop-item l = length l.text - l.r.position
+abbrev pub decreases-loop-nodes : goal.decreases-loop-nodes
+decreases-loop-nodes l = length l.text - l.reader.position

@@ -23,22 +23,22 @@ put_item-mark-requires c =
     let h = c.loop-item.invariant.2 in
     (_, _, h.shows, item_fits _ _ _ k h (called c.next_item-next.result c.next_item-next.ensures c.in-Ok.is))
 
-pub shape_of-table-then-r-reader : goal.shape_of-table-then-r-reader
-shape_of-table-then-r-reader c = c.put_item-mark.auto.table ∙ c.loop-item.invariant.2.same
+pub shape_of-table-then-reader-lists : goal.shape_of-table-then-reader-lists
+shape_of-table-then-reader-lists c = c.put_item-mark.auto.table ∙ c.loop-item.invariant.2.same
 
-pub returns-then-r-reader : goal.returns-then-r-reader
-returns-then-r-reader c =
+pub returns-then-reader-lists : goal.returns-then-reader-lists
+returns-then-reader-lists c =
     let (n, q, k) = c.requires in
     let h = c.loop-item.invariant.2 in
     let e = called c.next_item-next.result c.next_item-next.ensures c.in-Ok.is in
-    fill_ends _ _ _ k h e (c.put_item-mark.ensures _ _ h.shows (item_fits _ _ _ k h e)) c.if-r-reader.true
+    fill_ends _ _ _ k h e (c.put_item-mark.ensures _ _ h.shows (item_fits _ _ _ k h e)) c.if-reader-lists.true
 
 pub loop-item-smaller : goal.loop-item-smaller
 loop-item-smaller c =
     let (n, q, k) = c.requires in
     let h = c.loop-item.invariant.2 in
     let e = called c.next_item-next.result c.next_item-next.ensures c.in-Ok.is in
-    let (g, s) = fill_goes _ _ _ k h e (c.put_item-mark.ensures _ _ h.shows (item_fits _ _ _ k h e)) c.if-r-reader.false c.put_item-mark.auto.table in
+    let (g, s) = fill_goes _ _ _ k h e (c.put_item-mark.ensures _ _ h.shows (item_fits _ _ _ k h e)) c.if-reader-lists.false c.put_item-mark.auto.table in
     let t = took _ _ e in
     omega (arith, t.moves, t.within)
 
@@ -47,5 +47,5 @@ loop-item-preserved c =
     let (n, q, k) = c.requires in
     let h = c.loop-item.invariant.2 in
     let e = called c.next_item-next.result c.next_item-next.ensures c.in-Ok.is in
-    let (g, s) = fill_goes _ _ _ k h e (c.put_item-mark.ensures _ _ h.shows (item_fits _ _ _ k h e)) c.if-r-reader.false c.put_item-mark.auto.table in
+    let (g, s) = fill_goes _ _ _ k h e (c.put_item-mark.ensures _ _ h.shows (item_fits _ _ _ k h e)) c.if-reader-lists.false c.put_item-mark.auto.table in
     (g, _, s)

@@ -6,7 +6,7 @@ use Rattle.sise_tree.specs.Filling.{Fills}
 use Rattle.sise_tree.proofs.parse.fill_nodes.Given as goal
 
 abbrev pub invariant-loop-item : goal.invariant-loop-item
-invariant-loop-item l = (f : Frames) × (depth : ℕ) × Fills l.text l.initial.table l.reader f l.r depth l.table l.mark
+invariant-loop-item l = (f : Frames) × (depth : ℕ) × Fills l.text l.initial.table l.initial.reader f l.reader depth l.table l.mark
 
 abbrev pub decreases-loop-item : goal.decreases-loop-item
-decreases-loop-item l = length l.text - l.r.position
+decreases-loop-item l = length l.text - l.reader.position

@@ -8,19 +8,19 @@ returns-then-text-gt-LONGEST c = parse_long _ _ _ c.if-text-gt-LONGEST.true
 pub returns-in_default : goal.returns-in_default
 returns-in_default c =
     let a = c.args in
-    parse_stopped a.text.now a.reader a.table.now c.if-text-gt-LONGEST.false c.count_nodes-counted.ensures c.in_default.not-Ok
+    parse_stopped a.text.now a.reader a.table.now c.if-text-gt-LONGEST.false c.count_nodes-answer.ensures c.in_default.not-Ok
 
 pub returns-then-nodes-table : goal.returns-then-nodes-table
 returns-then-nodes-table c =
     let a = c.args in
-    parse_full a.text.now a.reader a.table.now c.if-text-gt-LONGEST.false c.count_nodes-counted.ensures c.in-Ok.is c.if-nodes-table.true
+    parse_full a.text.now a.reader a.table.now c.if-text-gt-LONGEST.false c.count_nodes-answer.ensures c.in-Ok.is c.if-nodes-table.true
 
 pub fill_nodes-requires : goal.fill_nodes-requires
 fill_nodes-requires c =
     let a = c.args in
-    parse_fillable a.text.now a.reader a.table.now c.if-text-gt-LONGEST.false c.count_nodes-counted.ensures c.in-Ok.is c.if-nodes-table.false
+    parse_fillable a.text.now a.reader a.table.now c.if-text-gt-LONGEST.false c.count_nodes-answer.ensures c.in-Ok.is c.if-nodes-table.false
 
 pub returns : goal.returns
 returns c =
     let a = c.args in
-    parse_filled a.text.now a.reader a.table.now c.if-text-gt-LONGEST.false c.count_nodes-counted.ensures c.in-Ok.is c.if-nodes-table.false c.fill_nodes.ensures
+    parse_filled a.text.now a.reader a.table.now c.if-text-gt-LONGEST.false c.count_nodes-answer.ensures c.in-Ok.is c.if-nodes-table.false c.fill_nodes.ensures

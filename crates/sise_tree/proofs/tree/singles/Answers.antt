@@ -2,11 +2,8 @@
 use Prim.Native.Nat.{ℕ, ◌+◌, ◌-◌, ◌≤◌, ◌<◌, ◌/◌}
 use native.Mathlib.Omega.{arith}
 use mathlib.Core.Path.{◌≡◌, sym, ◌∙◌}
-use mathlib.Core.Bool.{Bool, false}
 use mathlib.Core.List.{List}
-use lib.Dec.{eqb}
 use lib.ListN.{length}
-use borrow.Author.Tests.{eqb-false}
 use Rattle.sise_tree.specs.Tree.{kind, span}
 use Rattle.sise_tree.proofs.LocalSteps.{linked_none, fills_step}
 use Rattle.sise_tree.proofs.tree.singles.Invariants.{Counted}
@@ -18,16 +15,15 @@ none words left at end h =
     let q : at + 0 ≡ at = omega arith in
     record { same = λ parent. rw (p, q); few = omega arith; within = omega arith }
 
-one_more : {words : List ℕ} {left at end run w : ℕ} {b : Bool} → end ≤ length words / 4 → Counted words left at end run → run < left → at + run < end
-    → b ≡ eqb (kind words (at + run)) 0 → b ≡ false → w ≡ span words (at + run) → w ≡ 1 → Counted words left at end (run + 1)
-one_more {words} {left} {at} {end} {run} fit k l e told other r one =
+one_more : {words : List ℕ} {left at end run : ℕ} → end ≤ length words / 4 → Counted words left at end run → run < left → at + run < end
+    → (kind words (at + run) ≡ 0 → ⊥) → span words (at + run) ≡ 1 → Counted words left at end (run + 1)
+one_more {words} {left} {at} {end} {run} fit k l e atom one =
     let p : left - (run + 1) ≡ left - run - 1 = omega arith in
     let q : at + (run + 1) ≡ at + run + 1 = omega arith in
-    let atom : kind words (at + run) ≡ 0 → ⊥ = eqb-false (kind words (at + run)) 0 (sym told ∙ other) in
     record {
       same = λ parent.
           rw (p, q)
-          (fills_step words parent end fit (left - run) (at + run) {w = 1} (sym one ∙ r) (omega arith) e (λ z. omega arith) (linked_none words parent (at + run) atom)
+          (fills_step words parent end fit (left - run) (at + run) {w = 1} (sym one) (omega arith) e (λ z. omega (arith, one)) (linked_none words parent (at + run) atom)
           ∙ k.same parent);
       few = omega arith;
       within = omega arith;
@@ -37,4 +33,4 @@ pub loop-run-preserved : goal.loop-run-preserved
 loop-run-preserved c =
     let most : c.min-most.result ≤ c.args.end - c.args.at = omega (arith, c.min-most.ensures) in
     one_more c.requires.0 c.loop-run.invariant (omega (arith, c.loop-run-test.true, c.min-most.ensures)) (omega (arith, c.loop-run-test.true, c.min-most.ensures))
-    c.is_list.ensures c.if-is_list.false c.word.ensures.same c.if-word-ne1.false
+    (rw c.words_of-node.ensures at c.if-node-eq0.false) (rw c.words_of-node.ensures at c.if-node-ne1.false)

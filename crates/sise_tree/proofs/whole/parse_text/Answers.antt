@@ -18,7 +18,6 @@ use Rattle.sise_tree.specs.ParseText.{ParsesText, parses, placed_in, ended_with,
 use Rattle.sise_tree.specs.Filling.{counted, DoesCount, CanFill, DoesFill}
 use Rattle.sise_tree.specs.declared.parse.TreeError.{TreeError}
 use Rattle.sise_tree.specs.declared.parse.TreeError.TheVariants.{Refused, TextTooLong, TableFull}
-use Rattle.sise_tree.specs.declared.parse.TreeRead.{TreeRead}
 use Rattle.sise_tree.proofs.ParseCases.{is_answered, was_got, parse_fillable}
 use Rattle.sise_tree.proofs.whole.parse_text.Goals as goal
 
@@ -40,11 +39,11 @@ module _ (text words : List ℕ) where
         ap (text_read text words) e
 
     -- the counting, from a fresh reader
-    module _ {q : Reader} (fresh : q ≡ fresh_reader) {x : TreeRead} (counting : DoesCount (read_node text q) x) where
-      counts : DoesCount (read_node text fresh_reader) x
-      counts = subst (λ (r : Reader). DoesCount (read_node text r) x) fresh counting
+    module _ {r q : Reader} (fresh : r ≡ fresh_reader) {x : Result ℕ TreeError} (counting : DoesCount (read_node text r) q x) where
+      counts : DoesCount (read_node text fresh_reader) q x
+      counts = rw fresh at counting
 
-      unread : {d : TreeError} → x.answer ≡ Err d → DoesParseText (parse_text text words) (Err d) words
+      unread : {d : TreeError} → x ≡ Err d → DoesParseText (parse_text text words) (Err d) words
       unread {d} s = go (read_node text fresh_reader) refl
         where
           same : refused (tree_refusal d) ≡ counted (read_node text fresh_reader)
@@ -54,12 +53,12 @@ module _ (text words : List ℕ) where
           go (got n r) e = absurd (false≢true (ap is_answered (same ∙ ap counted e)))
           go (stopped z r) e = shown (read e) (record { answer = same ∙ ap counted e; words = refl })
 
-      fillable : {k : ℕ} → x.answer ≡ Ok k → k ≤ length words / 4 → {p : Reader} → p ≡ fresh_reader → CanFill text p words
+      fillable : {k : ℕ} → x ≡ Ok k → k ≤ length words / 4 → {p : Reader} → p ≡ fresh_reader → CanFill text p words
       fillable a u v = subst (λ (r : Reader). CanFill text r words) (sym v) (parse_fillable text fresh_reader words short counts a u)
 
-      module _ {k : ℕ} (a : x.answer ≡ Ok k) {f : Result (Unit {0}) ParseError} (ends : finished_as f ≡ finish_reading text x.reader) where
+      module _ {k : ℕ} (a : x ≡ Ok k) {f : Result (Unit {0}) ParseError} (ends : finished_as f ≡ finish_reading text q) where
         -- a node was counted, and finish answered so
-        by : {g : Result (Unit {0}) ParseError} {n : Node} → f ≡ g → read_node text fresh_reader ≡ got n x.reader → parse_text text words ≡ ended_with words n (finished_as g)
+        by : {g : Result (Unit {0}) ParseError} {n : Node} → f ≡ g → read_node text fresh_reader ≡ got n q → parse_text text words ≡ ended_with words n (finished_as g)
         by {n = n} t e = read e ∙ ap (ended_with words n) (sym ends ∙ ap finished_as t)
 
         more : {e : ParseError} → f ≡ Err e → DoesParseText (parse_text text words) (Err (Refused e)) words
@@ -84,7 +83,7 @@ module _ (text words : List ℕ) where
             (by t e ∙
             ap (λ (b : Bool). cond b (parses (answered (size n)) (filled_with n words)) (parses (refused_with 14) words))
             (le-leb (size n) (length words / 4) (subst (λ (m : ℕ). m ≤ length words / 4) z u)))
-            (record { answer = ap answered z; words = w n x.reader (ap (read_node text) v ∙ e) })
+            (record { answer = ap answered z; words = w n q (ap (read_node text) v ∙ e) })
 
 pub returns-then-text-gt-LONGEST : goal.returns-then-text-gt-LONGEST
 returns-then-text-gt-LONGEST c = long _ _ c.if-text-gt-LONGEST.true
@@ -92,22 +91,22 @@ returns-then-text-gt-LONGEST c = long _ _ c.if-text-gt-LONGEST.true
 pub returns-in_err-nodes : goal.returns-in_err-nodes
 returns-in_err-nodes c =
     let p = err_from_is_err_and c.from_residual.result c.from_residual.ensures.1 in
-    rw (p.1, p.2) (unread _ _ c.if-text-gt-LONGEST.false c.new.ensures c.count_nodes-counted.ensures c.in_err-nodes.was)
+    rw (p.1, p.2) (unread _ _ c.if-text-gt-LONGEST.false c.new-behind.ensures c.count_nodes.ensures c.in_err-nodes.was)
 
 pub returns-in_err-finish : goal.returns-in_err-finish
 returns-in_err-finish c =
     let p = err_from_is_err_and c.from_residual-in_err-finish.result c.from_residual-in_err-finish.ensures.1 in
-    rw (p.1, p.2) (more _ _ c.if-text-gt-LONGEST.false c.new.ensures c.count_nodes-counted.ensures c.in_ok-nodes.was c.finish.ensures c.in_err-finish.was)
+    rw (p.1, p.2) (more _ _ c.if-text-gt-LONGEST.false c.new-behind.ensures c.count_nodes.ensures c.in_ok-nodes.was c.finish.ensures c.in_err-finish.was)
 
 pub returns-then-nodes-table : goal.returns-then-nodes-table
 returns-then-nodes-table c =
-    full _ _ c.if-text-gt-LONGEST.false c.new.ensures c.count_nodes-counted.ensures c.in_ok-nodes.was c.finish.ensures c.in_ok-finish.was c.if-nodes-table.true
+    full _ _ c.if-text-gt-LONGEST.false c.new-behind.ensures c.count_nodes.ensures c.in_ok-nodes.was c.finish.ensures c.in_ok-finish.was c.if-nodes-table.true
 
 pub fill_nodes-requires : goal.fill_nodes-requires
 fill_nodes-requires c =
-    fillable _ _ c.if-text-gt-LONGEST.false c.new.ensures c.count_nodes-counted.ensures c.in_ok-nodes.was c.if-nodes-table.false c.new-2.ensures
+    fillable _ _ c.if-text-gt-LONGEST.false c.new-behind.ensures c.count_nodes.ensures c.in_ok-nodes.was c.if-nodes-table.false c.new.ensures
 
 pub returns : goal.returns
 returns c =
-    filled _ _ c.if-text-gt-LONGEST.false c.new.ensures c.count_nodes-counted.ensures c.in_ok-nodes.was c.finish.ensures c.in_ok-finish.was
-    c.if-nodes-table.false c.new-2.ensures c.fill_nodes.ensures
+    filled _ _ c.if-text-gt-LONGEST.false c.new-behind.ensures c.count_nodes.ensures c.in_ok-nodes.was c.finish.ensures c.in_ok-finish.was
+    c.if-nodes-table.false c.new.ensures c.fill_nodes.ensures

@@ -1,35 +1,44 @@
 -- `sise_util::four` meets its contract: the definition goes on with a third and a fourth octet that are each a UTF8-tail, and ends with any other.
-use mathlib.Core.Path.{◌≡◌, sym, ap₂, ◌∙◌}
-use Prim.Native.Nat.{ℕ, ◌+◌, ◌*◌, ◌≤◌}
+use mathlib.Core.Path.{◌≡◌, sym, ap, ◌∙◌}
+use Prim.Native.Nat.{ℕ, ◌+◌, ◌-◌, ◌*◌, ◌≤◌, ◌<◌}
 use native.Mathlib.Omega.{arith}
 use mathlib.Core.List.{List, [], ◌∷◌}
-use lib.Dec.{lit<}
-use lib.ListN.{drop}
-use Rattle.sise_util.specs.Parts.{OctetAt}
-use Rattle.sise_util.specs.Utf8.{tail, follow}
-use Rattle.sise_util.specs.Utf8.{well, ill}
-use Rattle.sise_util.proofs.Utf8Steps.{hit, miss, ends}
+use lib.ListN.{length, get_or}
+use Rattle.sise_util.specs.Utf8.{tail, well, ill, follow}
+use Rattle.sise_util.proofs.Utf8Steps.{hit, miss}
 use Rattle.sise_util.proofs.utf8.four.Goals as goal
 
--- a third octet that is a UTF8-tail, and a fourth that is none
-fourth : {l : List ℕ} {third o : ℕ} (c : ℕ) → OctetAt l 2 third → 0x80 ≤ third → third ≤ 0xBF → OctetAt l 3 o → (0x80 ≤ o → o ≤ 0xBF → ⊥) → ill 3 ≡ follow c 4 (tail ∷ tail ∷ []) (drop 2 l)
-fourth c s from to s' d = miss s' 0x80 0xBF d _ 4 [] ∙ sym (hit s 0x80 0xBF (lit< tt) from to c 4 (tail ∷ []))
+-- a third octet that is a UTF8-tail, and a fourth that is none or is not there
+fourth : (l : List ℕ) (c : ℕ) → 0 < length l → 0x80 ≤ get_or l 0 0 → get_or l 0 0 ≤ 0xBF → (1 < length l → 0x80 ≤ get_or l 1 0 → get_or l 1 0 ≤ 0xBF → ⊥) → ill 3 ≡ follow c 4 (tail ∷ tail ∷ []) l
+fourth l c h from to d = miss l 1 0x80 0xBF _ 4 [] d ∙ sym (hit l 0 0x80 0xBF c 4 (tail ∷ []) h from to)
 
-pub returns-in-128-to-191-fourth : goal.returns-in-128-to-191-fourth
-returns-in-128-to-191-fourth c =
-    ap₂ (λ (a b : ℕ). well (a * 64 + b) 4)
-    (ap₂ (λ (a b : ℕ). a * 64 + b) (ap₂ (λ (a b : ℕ). a * 64 + b) c.free_bits.ensures.0 c.free_bits-in-128-to-191-fourth.ensures.0) c.free_bits-in-128-to-191-fourth-2.ensures.0)
-    c.free_bits-in-128-to-191-fourth-3.ensures.0
-    ∙ sym (hit c.octet_at-third.ensures 0x80 0xBF (lit< tt) (omega arith) (omega arith) _ 4 (tail ∷ []) ∙ hit c.octet_at-fourth.ensures 0x80 0xBF (lit< tt) (omega arith) (omega arith) _ 4 [] ∙ ends _ 4 _)
+pub returns-in-128-to-191 : goal.returns-in-128-to-191
+unfolding follow
+returns-in-128-to-191 c =
+    let due = c.args.due.now in
+    ap (λ (n : ℕ). well ((n * 64 + (get_or due 0 0 - 128)) * 64 + (get_or due 1 0 - 128)) 4) c.joined.ensures
+    ∙ sym (hit due 0 0x80 0xBF _ 4 (tail ∷ []) (omega arith) (omega arith) (omega arith) ∙ hit due 1 0x80 0xBF _ 4 [] (omega arith) (omega arith) (omega arith))
 
-pub returns-in_default-fourth : goal.returns-in_default-fourth
-returns-in_default-fourth c = fourth _ c.octet_at-third.ensures (omega arith) (omega arith) c.octet_at-fourth.ensures (λ from to. omega arith)
+pub returns-in-128-to-191-2 : goal.returns-in-128-to-191-2
+returns-in-128-to-191-2 c = fourth c.args.due.now _ (omega arith) (omega arith) (omega arith) (λ h from to. omega arith)
 
-pub returns-in_default-fourth-2 : goal.returns-in_default-fourth-2
-returns-in_default-fourth-2 c = fourth _ c.octet_at-third.ensures (omega arith) (omega arith) c.octet_at-fourth.ensures (λ from to. omega arith)
+pub returns-in-128-to-191-2-2 : goal.returns-in-128-to-191-2-2
+returns-in-128-to-191-2-2 c = fourth c.args.due.now _ (omega arith) (omega arith) (omega arith) (λ h from to. omega arith)
+
+pub returns-in-128-to-191-2-3 : goal.returns-in-128-to-191-2-3
+returns-in-128-to-191-2-3 c = fourth c.args.due.now _ (omega arith) (omega arith) (omega arith) (λ h from to. omega arith)
 
 pub returns-in_default : goal.returns-in_default
-returns-in_default c = miss c.octet_at-third.ensures 0x80 0xBF (λ from to. omega arith) _ 4 (tail ∷ [])
+returns-in_default c = miss c.args.due.now 0 0x80 0xBF _ 4 (tail ∷ []) (λ h from to. omega arith)
 
 pub returns-in_default-2 : goal.returns-in_default-2
-returns-in_default-2 c = miss c.octet_at-third.ensures 0x80 0xBF (λ from to. omega arith) _ 4 (tail ∷ [])
+returns-in_default-2 c = miss c.args.due.now 0 0x80 0xBF _ 4 (tail ∷ []) (λ h from to. omega arith)
+
+pub returns-in_default-3 : goal.returns-in_default-3
+returns-in_default-3 c = miss c.args.due.now 0 0x80 0xBF _ 4 (tail ∷ []) (λ h from to. omega arith)
+
+pub returns-in_default-4 : goal.returns-in_default-4
+returns-in_default-4 c = miss c.args.due.now 0 0x80 0xBF _ 4 (tail ∷ []) (λ h from to. omega arith)
+
+pub returns-in_default-5 : goal.returns-in_default-5
+returns-in_default-5 c = miss c.args.due.now 0 0x80 0xBF _ 4 (tail ∷ []) (λ h from to. omega arith)

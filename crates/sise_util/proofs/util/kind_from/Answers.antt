@@ -1,6 +1,6 @@
 -- Each turn passes a string and the atom characters behind it, by what the test says at a `"`; at the end of the atom it has a `"` and is more than one string.
 use mathlib.Core.Path.{◌≡◌, sym, ap, ◌∙◌, subst}
-use mathlib.Core.Bool.{true, false, cond, ◌&&◌}
+use mathlib.Core.Bool.{true, false, cond}
 use mathlib.Core.List.{List, [], ◌∷◌}
 use Prim.Native.Nat.{ℕ, zero, suc, ◌+◌, ◌≤◌, ◌<◌}
 use native.Mathlib.Omega.{arith}
@@ -14,9 +14,9 @@ use Rattle.sise_util.specs.Atom.{outside, inside, is_atom, has_quote, ends_strin
 use Rattle.sise_util.specs.declared.util.AtomKind.TheVariants.{String, Mixed}
 use Rattle.sise_util.specs.Parts.{StringTo, PlainTo, StopsAt}
 use Rattle.sise_util.proofs.Lists.{drop-next}
-use Rattle.sise_util.proofs.Ranges.{split, and_first, and_second}
+use Rattle.sise_util.proofs.Ranges.{split}
 use Rattle.sise_util.proofs.AtomLaws.{outside_cons, plain_passes}
-use Rattle.sise_util.proofs.PlainRuns.{some_atom, no_string}
+use Rattle.sise_util.proofs.PlainRuns.{run_chrs, some_atom, no_string}
 use Rattle.sise_util.proofs.KindLaws.{kind_no, kind_string, kind_mixed}
 use Rattle.sise_util.proofs.util.kind_from.Invariants.{Due}
 use Rattle.sise_util.proofs.util.kind_from.Goals as goal
@@ -31,7 +31,7 @@ quote_at (b ∷ l) (suc n) h e = split (eqb b 34) (λ q. rw q) (λ q. rw q (quot
 -- the run of atom characters behind place e of s, in the words of s
 module _ (s : List ℕ) (e : ℕ) {n : ℕ} (p : PlainTo (drop e s) n) where
   run_passed : outside (drop (e + n) s) ≡ outside (drop e s)
-  run_passed = ap outside (sym (drop-drop n e s)) ∙ plain_passes (drop e s) n p.chrs
+  run_passed = ap outside (sym (drop-drop n e s)) ∙ plain_passes (drop e s) n (run_chrs (drop e s) n p)
 
   run_stops : StopsAt (drop e s) n → StopsAt s (e + n)
   run_stops k h = sym (ap is_atom_chr (get_or-drop e s n 0)) ∙ k (omega (arith, length-drop e s))
@@ -64,27 +64,26 @@ module _ {s : List ℕ} {at : ℕ} (d : Due s at) (h : at < length s) where
 
     module _ {r : ℕ} (t : StringTo s (at + 1) r) where
       -- all of it
-      whole : (eqb at 0 && eqb r (length s)) ≡ true → Some String ≡ kind_of s
+      whole : at ≡ 0 → r ≡ length s → Some String ≡ kind_of s
       unfolding outside
-      whole k =
-          let first = eqb-true at 0 (and_first (eqb at 0) (eqb r (length s)) k) in
-          let all = and_second (eqb at 0) (eqb r (length s)) k in
-          let end : length s ≤ r = omega (arith, eqb-true r (length s) all) in
-          kind_string s (sym string_due ∙ sym t.same ∙ ap outside (drop_of_length-le s end)) (quote_at s at h q) (string_here first ∙ t.whole ∙ all)
+      whole first all =
+          kind_string s (sym string_due ∙ sym t.same ∙ ap outside (drop_of_length-le s (omega arith))) (quote_at s at h q) (string_here first ∙ t.whole ∙ eq-eqb r (length s) all)
 
-      passed : {n : ℕ} → (eqb at 0 && eqb r (length s)) ≡ false → PlainTo (drop r s) n → StopsAt (drop r s) n → Due s (r + n)
+      passed : {n : ℕ} → (at ≡ 0 → r ≡ length s → ⊥) → PlainTo (drop r s) n → StopsAt (drop r s) n → Due s (r + n)
       passed k p stops = record {
         same = run_passed s r p ∙ t.same ∙ string_due;
         stop = run_stops s r p stops;
         begun = λ _.
             split (eqb at 0)
-            (λ f. string_here (eqb-true at 0 f) ∙ t.whole ∙ (rw f at k))
+            (λ f. let first = eqb-true at 0 f in string_here first ∙ t.whole ∙ ne_eqb r (length s) (k first))
             (λ f. d.begun (eqb-false at 0 f));
         quoted = λ _. quote_at s at h q;
       }
 
 starts : {s : List ℕ} {n : ℕ} → n < length s → PlainTo s n → StopsAt s n → Due s n
-starts {s} {n} h p k = record { same = plain_passes s n p.chrs ∙ some_atom s (λ z. absurd (omega arith)); stop = k; begun = no_string s n p.chrs; quoted = λ z. absurd (omega arith) }
+starts {s} {n} h p k =
+    let chrs = run_chrs s n p in
+    record { same = plain_passes s n chrs ∙ some_atom s (λ z. absurd (omega arith)); stop = k; begun = no_string s n chrs; quoted = λ z. absurd (omega arith) }
 
 ended : {s : List ℕ} {at : ℕ} → Due s at → length s ≤ at → 0 < length s → Some Mixed ≡ kind_of s
 unfolding outside
@@ -99,15 +98,15 @@ returns-then-atom-at-ne34 c = stopped c.loop-at.invariant c.loop-at-test.true c.
 pub returns-in_err-end : goal.returns-in_err-end
 returns-in_err-end c = c.from_residual.ensures ∙ unclosed c.loop-at.invariant c.loop-at-test.true c.if-atom-at-ne34.false c.in_err-end.ensures
 
-pub returns-then-is_whole : goal.returns-then-is_whole
-returns-then-is_whole c = whole c.loop-at.invariant c.loop-at-test.true c.if-atom-at-ne34.false c.in_ok-end.ensures (sym c.is_whole.ensures ∙ c.if-is_whole.true)
+pub returns-then-end-atom : goal.returns-then-end-atom
+returns-then-end-atom c = whole c.loop-at.invariant c.loop-at-test.true c.if-atom-at-ne34.false c.in_ok-end.ensures (omega arith) (omega arith)
 
 pub loop-at-preserved : goal.loop-at-preserved
 loop-at-preserved c =
     let e = take_rest c.args.atom.now c.in_ok-end.end in
     let run = subst (λ (m : List ℕ). PlainTo m c.plain_end.result) e c.plain_end.ensures.run in
     let stop = subst (λ (m : List ℕ). StopsAt m c.plain_end.result) e c.plain_end.ensures.stop in
-    passed c.loop-at.invariant c.loop-at-test.true c.if-atom-at-ne34.false c.in_ok-end.ensures (sym c.is_whole.ensures ∙ c.if-is_whole.false) run stop
+    passed c.loop-at.invariant c.loop-at-test.true c.if-atom-at-ne34.false c.in_ok-end.ensures (λ first all. grind arith) run stop
 
 pub returns : goal.returns
 returns c = ended c.loop-at.invariant c.loop-at-test.false (omega (arith, c.requires.0))

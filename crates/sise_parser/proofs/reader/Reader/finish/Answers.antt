@@ -1,10 +1,12 @@
 -- `sise_parser::Reader::finish` meets its contract: refusals 11 and 10 first, then whether the token is the text's end.
 use mathlib.Core.Path.{◌≡◌, refl, sym, ap, ◌∙◌}
+use denote.Enum.Bare.{differs_true, differs_false}
 use Rattle.std.proofs.lemmas.Result.{err_from_is_err_and}
 use Rattle.sise_parser.specs.Refusals.{refusal}
 use Rattle.sise_parser.specs.Lexer.{found}
 use Rattle.sise_parser.specs.Reader.{token_at, ended, not_ended, ends_at}
 use Rattle.sise_parser.specs.Meaning.{lexeme_as, token_as}
+use Rattle.sise_parser.specs.contracts.reader.Phase.{the_type}
 use Rattle.sise_parser.specs.declared.lexer.Lexeme.{Lexeme}
 use Rattle.sise_parser.specs.declared.lexer.Token.{Token}
 use Rattle.sise_parser.specs.declared.lexer.Token.TheVariants.{Eof, LeftParen, RightParen, Atom}
@@ -29,23 +31,23 @@ before_end x k = go x.token k
 pub returns-then-not-is_sound : goal.returns-then-not-is_sound
 returns-then-not-is_sound c = finish_unsound c.args.text.now c.args.self (sym c.is_sound.ensures ∙ c.if-not-is_sound.true)
 
-pub returns-in_default : goal.returns-in_default
-returns-in_default c = finish_early c.args.text.now c.args.self (sym c.is_sound.ensures ∙ c.if-not-is_sound.false) c.in_default.not-Finishing
+pub returns-then-ne : goal.returns-then-ne
+returns-then-ne c = finish_early c.args.text.now c.args.self (sym c.is_sound.ensures ∙ c.if-not-is_sound.false) (differs_true the_type _ _ (sym c.ne.ensures ∙ c.if-ne.true))
 
 pub returns-in_err-found : goal.returns-in_err-found
 unfolding token_at ends_at
 returns-in_err-found c =
     let p = err_from_is_err_and c.from_residual.result c.from_residual.ensures.1 in
-    rw (p.1, p.2) (finish_token c.args.text.now c.args.self (sym c.is_sound.ensures ∙ c.if-not-is_sound.false) c.in-Finishing.is c.in_err-found.ensures)
+    rw (p.1, p.2) (finish_token c.args.text.now c.args.self (sym c.is_sound.ensures ∙ c.if-not-is_sound.false) (differs_false the_type _ _ _ (sym c.ne.ensures ∙ c.if-ne.false)) c.in_err-found.ensures)
 
 pub returns-in-Eof : goal.returns-in-Eof
 unfolding token_at
 returns-in-Eof c =
     at_end_lem c.in_ok-found.found c.in-Eof.is
-    ∙ finish_token c.args.text.now c.args.self (sym c.is_sound.ensures ∙ c.if-not-is_sound.false) c.in-Finishing.is c.in_ok-found.ensures
+    ∙ finish_token c.args.text.now c.args.self (sym c.is_sound.ensures ∙ c.if-not-is_sound.false) (differs_false the_type _ _ _ (sym c.ne.ensures ∙ c.if-ne.false)) c.in_ok-found.ensures
 
-pub returns-in_default-token : goal.returns-in_default-token
+pub returns-in_default : goal.returns-in_default
 unfolding token_at
-returns-in_default-token c =
-    before_end c.in_ok-found.found c.in_default-token.not-Eof
-    ∙ finish_token c.args.text.now c.args.self (sym c.is_sound.ensures ∙ c.if-not-is_sound.false) c.in-Finishing.is c.in_ok-found.ensures
+returns-in_default c =
+    before_end c.in_ok-found.found c.in_default.not-Eof
+    ∙ finish_token c.args.text.now c.args.self (sym c.is_sound.ensures ∙ c.if-not-is_sound.false) (differs_false the_type _ _ _ (sym c.ne.ensures ∙ c.if-ne.false)) c.in_ok-found.ensures

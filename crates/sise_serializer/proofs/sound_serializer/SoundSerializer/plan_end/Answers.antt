@@ -13,20 +13,20 @@ returns-in-Beginning c = let a = c.args in rw (end_in_lem (style_of a.style) a.r
 pub plan_end_on_new_line-requires-clause-open : goal.plan_end_on_new_line-requires-clause-open
 plan_end_on_new_line-requires-clause-open c = writing_lists c.args.self.serializer c.args.self.sound c.in-Writing.is
 
-pub returns-then-self : goal.returns-then-self
+pub returns-in-Writing : goal.returns-in-Writing
 unfolding end_in
-returns-then-self c =
+returns-in-Writing c =
     let a = c.args in
     rw (end_in_lem (style_of a.style) a.room a.self.serializer a.self.sound c.in-Writing.is, close_broken _ a.self.serializer c.if-self.true) c.plan_end_on_new_line.ensures
 
 pub plan_end_in_line-requires : goal.plan_end_in_line-requires
 plan_end_in_line-requires c = let unequal = c.if-self.false in let few = (sound _ c.args.self.sound).checked.broken in omega arith
 
-pub returns-else-self : goal.returns-else-self
+pub returns-in-Writing-2 : goal.returns-in-Writing-2
 unfolding end_in
-returns-else-self c =
+returns-in-Writing-2 c =
     let a = c.args in
-    rw (end_in_lem (style_of a.style) a.room a.self.serializer a.self.sound c.in-Writing.is, close_unbroken _ a.self.serializer c.if-self.false) c.plan_end_in_line.ensures
+    rw (end_in_lem (style_of a.style) a.room a.self.serializer a.self.sound c.in-Writing-2.is, close_unbroken _ a.self.serializer c.if-self.false) c.plan_end_in_line.ensures
 
 pub returns-in-Finished : goal.returns-in-Finished
 returns-in-Finished c = let a = c.args in rw (end_refused (style_of a.style) a.room a.self.serializer a.self.sound c.in-Finished.is) refl

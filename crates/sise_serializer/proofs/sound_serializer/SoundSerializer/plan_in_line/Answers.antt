@@ -19,7 +19,7 @@ returns-in_err-spot c token e =
     let s = style_of a.style in
     let gap : layout_bytes s c.if-w.layout ≡ gap_bytes a.self.serializer.list_beginning
     = elim c.if-w.branch [ then-w w ↦ rw (w.layout-is, w.if-w.true) refl | else-w w ↦ rw (w.layout-is, w.if-w.false) refl ] in
-    full s a.room a.self.serializer (in_line a.self.serializer token a.is_list (gap_bytes a.self.serializer.list_beginning)) c.if-w.layout c.find.ensures gap e _ c.in_err-spot.was c.from_residual.ensures.1
+    full s a.room a.self.serializer (in_line a.self.serializer token a.is_list) c.if-w.layout c.find.ensures gap e _ c.in_err-spot.was c.from_residual.ensures.1
 
 pub returns : goal.returns
 unfolding in_line
@@ -29,7 +29,7 @@ returns c token e =
     let s = style_of a.style in
     let gap : layout_bytes s c.if-w.layout ≡ gap_bytes a.self.serializer.list_beginning
     = elim c.if-w.branch [ then-w w ↦ rw (w.layout-is, w.if-w.true) refl | else-w w ↦ rw (w.layout-is, w.if-w.false) refl ] in
-    planned s a.room a.self.serializer (in_line a.self.serializer token a.is_list (gap_bytes a.self.serializer.list_beginning)) c.if-w.layout c.find.ensures gap e c.in_ok-spot.was c.new.ensures
+    planned s a.room a.self.serializer (in_line a.self.serializer token a.is_list) c.if-w.layout c.find.ensures gap e c.in_ok-spot.was c.new.ensures
     (λ q.
     let line : w.line_len + (c.in_ok-spot.spot.end - w.position) ≡ w.line_len + length (gap_bytes w.list_beginning) + length token = omega (arith, q) in
     c.behind_in_line-serializer.ensures ∙ rw (line, q) refl)

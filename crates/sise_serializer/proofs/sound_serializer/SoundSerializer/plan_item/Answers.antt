@@ -10,16 +10,16 @@ returns-in-Beginning c token e =
     let s = style_of a.style in
     rw (item_first s a.room a.self.serializer token a.is_list a.break_line_at c.in-Beginning.is) (c.plan_first.ensures token e)
 
-pub returns-then-break_line_at-self : goal.returns-then-break_line_at-self
-returns-then-break_line_at-self c token e =
+pub returns-in-Writing : goal.returns-in-Writing
+returns-in-Writing c token e =
     let a = c.args in
     rw (item_on_new_line (style_of a.style) a.room a.self.serializer token a.is_list a.break_line_at c.in-Writing.is c.if-break_line_at-self.true) (c.plan_on_new_line.ensures token e)
 
-pub returns-else-break_line_at-self : goal.returns-else-break_line_at-self
-returns-else-break_line_at-self c token e =
+pub returns-in-Writing-2 : goal.returns-in-Writing-2
+returns-in-Writing-2 c token e =
     let a = c.args in
     let s = style_of a.style in
-    rw (item_in_line s a.room a.self.serializer token a.is_list a.break_line_at c.in-Writing.is c.if-break_line_at-self.false) (c.plan_in_line.ensures token e)
+    rw (item_in_line s a.room a.self.serializer token a.is_list a.break_line_at c.in-Writing-2.is c.if-break_line_at-self.false) (c.plan_in_line.ensures token e)
 
 pub returns-in-Finished : goal.returns-in-Finished
 returns-in-Finished c token e =

@@ -11,8 +11,8 @@ bounds-table-i c =
     let k = counting _ c.if-self.false c.requires in
     omega (arith, k.within, c.wide-i.ensures.same)
 
-pub overflow_add-table : goal.overflow_add-table
-overflow_add-table c =
+pub overflow_add-table-2 : goal.overflow_add-table-2
+overflow_add-table-2 c =
     let k = counting _ c.if-self.false c.requires in
     rw c.wide-i.ensures.same (record { fits = k.small })
 

@@ -20,24 +20,24 @@ returns-in_err-list c =
 
 pub returns-then-list-ne0 : goal.returns-then-list-ne0
 returns-then-list-ne0 c =
-    let its = its_words _ _ c.node.ensures (some_of _ _ c.ok_or.ensures.value c.in_ok-list.was) in
+    let (within, its) = its_words _ _ c.node.ensures (some_of _ _ c.ok_or.ensures.value c.in_ok-list.was) in
     elim c.then-list-ne0.branch [
-      | then-list-ne0-via-then-list-ne0 w ↦ sym (going_atom c.loop-index.invariant its c.loop-index-test.true w.if-list-ne0.true)
-      | then-list-ne0-via-else-list-ne0+then-index-list w ↦ sym (going_none c.loop-index.invariant its c.loop-index-test.true w.if-list-ne0.false w.if-index-list.true)
+      | then-list-ne0-via-then-list-ne0 w ↦ sym (going_atom c.loop-index.invariant within c.loop-index-test.true (rw its at w.if-list-ne0.true))
+      | then-list-ne0-via-else-list-ne0+then-index-list w ↦ sym (going_none c.loop-index.invariant within c.loop-index-test.true (rw its at w.if-list-ne0.false) (rw its at w.if-index-list.true))
     ]
 
 pub returns-in_err-at : goal.returns-in_err-at
 returns-in_err-at c =
-    let its = its_words _ _ c.node.ensures (some_of _ _ c.ok_or.ensures.value c.in_ok-list.was) in
+    let (within, its) = its_words _ _ c.node.ensures (some_of _ _ c.ok_or.ensures.value c.in_ok-list.was) in
     let (none, e) = none_of _ _ c.ok_or-in-loop-index.ensures.value c.in_err-at.was in
     let p = err_from_is_err_and c.from_residual-in_err-at.result c.from_residual-in_err-at.ensures.1 in
-    rw (p.1, p.2, e) (sym (going_stop c.loop-index.invariant its c.loop-index-test.true c.if-list-ne0.false c.if-index-list.false c.passed.ensures.same none))
+    rw (p.1, p.2, e) (sym (going_stop c.loop-index.invariant within c.loop-index-test.true (rw its at c.if-list-ne0.false) (rw its at c.if-index-list.false) c.passed.ensures.same none))
 
 pub loop-index-preserved : goal.loop-index-preserved
 loop-index-preserved c =
-    let its = its_words _ _ c.node.ensures (some_of _ _ c.ok_or.ensures.value c.in_ok-list.was) in
+    let (within, its) = its_words _ _ c.node.ensures (some_of _ _ c.ok_or.ensures.value c.in_ok-list.was) in
     let behind = some_of _ _ c.ok_or-in-loop-index.ensures.value c.in_ok-at.was in
-    going_on c.loop-index.invariant its c.loop-index-test.true c.if-list-ne0.false c.if-index-list.false c.passed.ensures.same behind (rw behind at c.passed.ensures.forward)
+    going_on c.loop-index.invariant within c.loop-index-test.true (rw its at c.if-list-ne0.false) (rw its at c.if-index-list.false) c.passed.ensures.same behind (rw behind at c.passed.ensures.forward)
 
 pub returns-in_err-ok_or : goal.returns-in_err-ok_or
 returns-in_err-ok_or c =
@@ -47,4 +47,4 @@ returns-in_err-ok_or c =
 
 pub returns : goal.returns
 returns c =
-    sym (going_found c.loop-index.invariant (its_words _ _ c.node-2.ensures (some_of _ _ c.ok_or-2.ensures.value c.in_ok-ok_or.was)) c.loop-index-test.false)
+    sym (going_found c.loop-index.invariant (its_words _ _ c.node-2.ensures (some_of _ _ c.ok_or-2.ensures.value c.in_ok-ok_or.was)).0 c.loop-index-test.false)

@@ -1,35 +1,37 @@
 -- On a table that holds a tree the lookup of the nodes on the way answers for the whole, whether its atoms are atoms or not.
-use mathlib.Core.Path.{◌≡◌, sym, ap, ◌∙◌}
-use mathlib.Core.Bool.{true}
-use Rattle.std.specs.Prelude.{Err}
+use mathlib.Core.Path.{◌≡◌, refl, sym, ap, ◌∙◌}
+use mathlib.Core.Bool.{true, false≢true}
+use Rattle.std.specs.Prelude.{Ok, Err}
+use Rattle.std.specs.Result.{result_eq}
 use Rattle.std.proofs.lemmas.Result.{err_from_is_err_and}
-use Rattle.sise_tree.specs.Decision.{decide, is_some}
+use Rattle.std.specs.contracts.prelude.UnitPartialEq.TheImpl as unit
+use Rattle.sise_tree.specs.contracts.tree.TableErrorPartialEq.TheImpl as reason
 use Rattle.sise_tree.specs.FindPath.{found_as}
-use Rattle.sise_tree.specs.declared.tree.TableError.TheVariants.{NotATree}
-use Rattle.sise_tree.proofs.HeldLaws.{some_held, none_held, same_error}
+use Rattle.sise_tree.specs.declared.tree.TableError.TheVariants.{NotATree, NoAtom}
+use Rattle.sise_tree.specs.Held.{Held}
+use Rattle.sise_tree.proofs.HeldLaws.{some_held, none_held}
 use Rattle.sise_tree.proofs.FindTree.{too_long, no_tree_lem, index_found, index_refused}
-use Rattle.sise_tree.proofs.tree.TreeTable.index_path.Goals.{in-Err+in_default-error, in_default}
 use Rattle.sise_tree.proofs.tree.TreeTable.index_path.Goals as goal
 
 pub returns-then-self-gt-LONGEST : goal.returns-then-self-gt-LONGEST
 returns-then-self-gt-LONGEST c = sym (too_long _ _ _ c.if-self-gt-LONGEST.true)
 
-pub returns-in-NotATree : goal.returns-in-NotATree
-returns-in-NotATree c = sym (no_tree_lem _ _ _ c.if-self-gt-LONGEST.false (none_held _ _ c.holds_tree.ensures (c.in-Err.is ∙ ap Err c.in-NotATree.is)))
+-- where the answer is the same as this one it is this one
+is_none : (h : Held) → result_eq unit.eq-value.it reason.eq-value.it h (Err NotATree) ≡ true → h ≡ Err NotATree
+is_none (Ok tt) e = absurd (false≢true e)
+is_none (Err NotATree) e = refl
+is_none (Err NoAtom) e = absurd (false≢true e)
 
-pub returns-in_err-found : goal.returns-in_err-found
-returns-in_err-found c =
+pub returns-then-eq : goal.returns-then-eq
+returns-then-eq c = sym (no_tree_lem _ _ _ c.if-self-gt-LONGEST.false (none_held _ _ c.holds_tree.ensures (is_none c.holds_tree.result (sym c.eq.ensures ∙ c.if-eq.true))))
+
+pub returns-in_err-find_path : goal.returns-in_err-find_path
+returns-in_err-find_path c =
     let p = err_from_is_err_and c.from_residual.result c.from_residual.ensures.1 in
-    let tree : is_some (decide c.args.self.text.now c.args.self.table.now) ≡ true = elim c.match-holds_tree.branch [
-      | in-Err+in_default-error w ↦ some_held _ _ c.holds_tree.ensures (λ z. w.in_default-error.not-NotATree (same_error (sym w.in-Err.is ∙ z)))
-      | in_default w ↦ some_held _ _ c.holds_tree.ensures (w.in_default.not-Err NotATree)
-    ] in
-    rw (p.1, p.2) (index_refused _ _ _ c.if-self-gt-LONGEST.false tree _ (sym (ap found_as c.in_err-found.was) ∙ c.find_path.ensures))
+    let tree = some_held _ _ c.holds_tree.ensures (λ z. false≢true (sym c.if-eq.false ∙ rw z at c.eq.ensures)) in
+    rw (p.1, p.2) (index_refused _ _ _ c.if-self-gt-LONGEST.false tree _ (sym (ap found_as c.in_err-find_path.was) ∙ c.find_path.ensures))
 
 pub returns : goal.returns
 returns c =
-    let tree : is_some (decide c.args.self.text.now c.args.self.table.now) ≡ true = elim c.match-holds_tree.branch [
-      | in-Err+in_default-error w ↦ some_held _ _ c.holds_tree.ensures (λ z. w.in_default-error.not-NotATree (same_error (sym w.in-Err.is ∙ z)))
-      | in_default w ↦ some_held _ _ c.holds_tree.ensures (w.in_default.not-Err NotATree)
-    ] in
-    index_found _ _ _ c.if-self-gt-LONGEST.false tree (sym (ap found_as c.in_ok-found.was) ∙ c.find_path.ensures)
+    let tree = some_held _ _ c.holds_tree.ensures (λ z. false≢true (sym c.if-eq.false ∙ rw z at c.eq.ensures)) in
+    index_found _ _ _ c.if-self-gt-LONGEST.false tree (sym (ap found_as c.in_ok-find_path.was) ∙ c.find_path.ensures)

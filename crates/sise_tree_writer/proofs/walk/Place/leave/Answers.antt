@@ -9,4 +9,4 @@ returns-then-self-eq0 c = rw (eq-eqb _ _ c.if-self-eq0.true)
 
 pub returns : goal.returns
 unfolding left_list
-returns c = rw (ne_eqb _ _ c.if-self-eq0.false, c.wide-2.ensures.same, c.node-2.ensures.spans, c.wide.ensures.same, c.node.ensures.seconds)
+returns c = rw (ne_eqb _ _ c.if-self-eq0.false, c.wide-2.ensures.same, c.node-2.ensures.1, c.wide.ensures.same, c.node.ensures.1)

@@ -3,8 +3,8 @@ use mathlib.Core.Path.{refl}
 use Rattle.std.proofs.lemmas.Result.{err_from_is_err_and}
 use Rattle.sise_serializer.specs.Serializer.{style_of}
 use Rattle.sise_tree_writer.proofs.Measuring.{no_answer}
-use Rattle.sise_tree_writer.proofs.Finishing.{tree_sound, refused_none, finish_off, finish_on}
-use Rattle.sise_tree_writer.proofs.Planned.{planned_record}
+use Rattle.sise_tree_writer.proofs.Finishing.{tree_sound, refused_none, finish_off, text_fits}
+use Rattle.sise_tree_writer.proofs.Planned.{planned_as}
 use Rattle.sise_tree_writer.proofs.writing.Writing.plan.Goals as goal
 
 pub returns-in_err-nodes : goal.returns-in_err-nodes
@@ -22,12 +22,12 @@ pub returns-in_err-last : goal.returns-in_err-last
 returns-in_err-last c =
     let a = c.args in
     let p = err_from_is_err_and c.from_residual-in_err-last.result c.from_residual-in_err-last.ensures.1 in
-    rw (p.1, p.2, c.in-Some.is) (finish_off (style_of a.self.style) a.room a.serializer a.self.tree.text.now a.self.tree.table.now a.self.break_line_at c.in_ok-nodes.ensures refl _ _ (rw c.behind-planned.ensures (planned_record _ _ _ _ _ _ c.plan_finish.ensures)) c.in_err-last.ensures.value)
+    rw (p.1, p.2, c.in-Some.is) (finish_off (style_of a.self.style) a.room a.serializer a.self.tree.text.now a.self.tree.table.now a.self.break_line_at c.in_ok-nodes.ensures refl _ (planned_as _ _ _ _ _ _ c.plan_finish.ensures c.in_err-last.ensures))
 
 pub returns : goal.returns
 returns c =
     let a = c.args in
-    rw c.in-Some.is (finish_on (style_of a.self.style) a.room a.serializer a.self.tree.text.now a.self.tree.table.now a.self.break_line_at c.in_ok-nodes.ensures refl _ _ (rw c.behind-planned.ensures (planned_record _ _ _ _ _ _ c.plan_finish.ensures)) c.in_ok-last.ensures.value)
+    rw c.in-Some.is (text_fits (style_of a.self.style) a.room a.serializer a.self.tree.text.now a.self.tree.table.now a.self.break_line_at c.in_ok-nodes.ensures refl _ (planned_as _ _ _ _ _ _ c.plan_finish.ensures c.in_ok-last.ensures))
 
 pub returns-in_default : goal.returns-in_default
 returns-in_default c = rw c.in_default.is c.in_ok-nodes.ensures

@@ -33,4 +33,4 @@ measure_nodes-requires c = let a = c.args in let (n, d, k) = tree_held a.self.tr
 
 pub returns : goal.returns
 unfolding is_some
-returns c = λ b long. let a = c.args in let (n, d, k) = tree_held a.self.tree.text.now _ c.holds_tree.ensures c.in_ok-holds_tree.was in rw (c.ok_or.ensures.value, tree_in (style_of a.self.style) b a.serializer a.self.tree.text.now a.self.tree.table.now (tree_calls a.self.tree.text.now a.self.break_line_at) c.if-self-gt-LONGEST.false (sym c.is_sound.ensures ∙ c.if-not-is_sound.false)) (node_checked _ _ _ _ _ _ (record { holds = ap is_some d; atoms = λ m e. rw (some-injective _ _ (sym d ∙ e)) at k }) (sym c.is_over.ensures ∙ c.if-is_over.false) (λ n d. found b long (c.measure_nodes.ensures n d)))
+returns c = λ b long. let a = c.args in let (n, d, k) = tree_held a.self.tree.text.now _ c.holds_tree.ensures c.in_ok-holds_tree.was in rw (tree_in (style_of a.self.style) b a.serializer a.self.tree.text.now a.self.tree.table.now (tree_calls a.self.tree.text.now a.self.break_line_at) c.if-self-gt-LONGEST.false (sym c.is_sound.ensures ∙ c.if-not-is_sound.false)) (node_checked _ _ _ _ _ _ (record { holds = ap is_some d; atoms = λ m e. rw (some-injective _ _ (sym d ∙ e)) at k }) (sym c.is_over.ensures ∙ c.if-is_over.false) (λ n d. found b long (c.measure_nodes.ensures n d)))
