@@ -115,6 +115,15 @@ extern "C" {
         item: *mut u64,
     ) -> u32;
 
+    pub fn sise_next_tree(
+        text: *const u8,
+        text_len: usize,
+        record: *mut u64,
+        table: *mut u32,
+        table_len: usize,
+        values: *mut u64,
+    ) -> u32;
+
     pub fn sise_finish_reading(
         text: *const u8,
         text_len: usize,
@@ -155,6 +164,22 @@ extern "C" {
         indentation_len: usize,
         buf: *mut u8,
         buf_len: usize,
+        record: *mut u64,
+        values: *mut u64,
+    ) -> u32;
+
+    pub fn sise_put_tree(
+        line_break: *const u8,
+        line_break_len: usize,
+        indentation: *const u8,
+        indentation_len: usize,
+        buf: *mut u8,
+        buf_len: usize,
+        text: *const u8,
+        text_len: usize,
+        table: *const u32,
+        table_len: usize,
+        break_line_at: u64,
         record: *mut u64,
         values: *mut u64,
     ) -> u32;

@@ -7,9 +7,9 @@
  * A text is bytes: one node, which is an atom or a list of nodes, as in (stage (x -12.5 "a b")). Space, tab, LF and CR may stand
  * between them, and so may a comment, from `;` to the line's end. Most calls do a whole job: they check an atom or say its
  * kind, read a text into a table, find a node in a table, write a table's tree as a text, or measure it first and then commit
- * it, read a text's items into words, or run a list of writer calls. The last six are the reader's and the writer's own calls,
- * item by item. examples/c/show.c is a small program over them; examples/c/calls.c makes each call with all that it takes and
- * prints all that it gives.
+ * it, read a text's items into words, or run a list of writer calls. The last eight are the reader's and the writer's own
+ * calls, item by item or a node at a time. examples/c/show.c is a small program over them; examples/c/calls.c makes each call
+ * with all that it takes and prints all that it gives.
  *
  * Memory. The caller owns all memory and lends it for the time of the call: no call allocates, keeps a pointer, has a state
  * of its own, recurses, or touches a byte outside of what it was lent. Lent memory crosses as a pointer and a number of
@@ -24,11 +24,11 @@
  * Costs. A call takes time in proportion to what is said of it, and a fixed amount of stack, whatever it is lent.
  *
  * Results. A call that returns uint32_t returns 0, or a refusal's number (below); of a refusal nothing is written but `values`,
- * and by sise_next_item its item and its record. Only sise_atom_kind, which refuses nothing, returns a kind there. `values` are
- * two words, which a call that takes them always writes. Where it is not refused, values[0] is what it answers and values[1] is
- * 0; only sise_find_path answers in both. Of a refusal in the text (1 to 8), values[0] is the place, a byte's offset from 0, and
- * values[1] the code point found there (of 1 to 3, else 0). Of any other refusal both are 0. Where a call has several reasons to
- * refuse, it gives the first in the order that is said of it.
+ * by sise_next_item its item and its record, and by sise_next_tree its record. Only sise_atom_kind, which refuses nothing,
+ * returns a kind there. `values` are two words, which a call that takes them always writes. Where it is not refused, values[0]
+ * is what it answers and values[1] is 0; only sise_find_path answers in both. Of a refusal in the text (1 to 8, 12), values[0]
+ * is the place, a byte's offset from 0, and values[1] the code point found there (of 1 to 3, else 0). Of any other refusal both
+ * are 0. Where a call has several reasons to refuse, it gives the first in the order that is said of it.
  *
  * From fault to fault. The place of 1, 2, 3 and 8 is that of a character's first byte. A character that is cut off or broken
  * is one fault, as in an editor: it has the bytes from there on that are a start of a well-formed character, at least one, and
@@ -69,10 +69,7 @@ extern "C" {
 /* The threshold of the house style. */
 #define SISE_HOUSE_THRESHOLD 72
 
-/*
- * Refusals. 12 is a number of a call that reads a node in the middle of a text, which this library does not have; 21 is no
- * longer given.
- */
+/* Refusals. 21 is no longer given. */
 enum sise_refusal {
     SISE_OK = 0,
     /* In a text, with a place. */
@@ -88,6 +85,8 @@ enum sise_refusal {
     SISE_PARSING_FINISHED = 9,      /* the last item is read */
     SISE_PARSING_NOT_FINISHED = 10, /* finish before the last item is read */
     SISE_UNSOUND_RECORD = 11,       /* words that cannot stand in a record, or not beside each other */
+    /* Of a node that is read in the middle of a text; with a place. */
+    SISE_NODE_EXPECTED = 12, /* a list closes where a node is due */
     /* Of what is lent. */
     SISE_TEXT_TOO_LONG = 13, /* the text has more than SISE_LONGEST bytes */
     SISE_TABLE_FULL = 14,    /* the memory has no room for what was read */
@@ -224,11 +223,11 @@ uint64_t sise_write_calls(const uint64_t *words, size_t words_len, const uint8_t
                           uint64_t ran[1]);
 
 /*
- * Item by item. These calls take a record: words that the caller keeps, all 0 before the first call, and lends to each call with
- * the same text, or the same buffer. A call finds there where the last one stopped, and leaves where it stopped itself. A
- * program that has several texts under way has a record for each.
+ * Item by item, or a node at a time. These calls take a record: words that the caller keeps, all 0 before the first call, and
+ * lends to each call with the same text, or the same buffer. A call finds there where the last one stopped, and leaves where it
+ * stopped itself; which call comes next is the caller's choice. A program that has several texts under way has a record for each.
  * Any words may be lent as a record. If one is out of its range, or they cannot stand beside each other, the call is refused
- * with 11 before anything else, and the words stay as they are. What the calls leave is never refused so.
+ * with 11 before anything else but 13, and the words stay as they are. What the calls leave is never refused so.
  */
 
 /*
@@ -245,7 +244,21 @@ uint64_t sise_write_calls(const uint64_t *words, size_t words_len, const uint8_t
 uint32_t sise_next_item(const uint8_t *text, size_t text_len, uint64_t record[3], uint64_t item[3]);
 
 /*
- * Whether nothing but blanks and comments stands behind the last item. Answers 0. The record is as sise_next_item left it.
+ * Reads the node due, which is an atom or a list to its end, into the first words of the table; the words after them stay as
+ * they are. Answers the number of nodes. The record is that of sise_next_item, and serves in the middle of a list too: the node
+ * is then the list's next child. In the table it is a tree of its own; its atoms' places are those in the whole text, which is
+ * to be lent beside the table.
+ * On a refusal the table stays as it is. 12 and one in the text (1 to 6, 8) leave the record as the sise_next_item left it that
+ * met the refusal: what was read of the node before is passed, and its lists are open. 12 moves past the `)` of the list that
+ * was open before. 9, 11, 13 and 14 move nothing: after 14 the call may be made again with a longer table.
+ * Refused: 13; 11; 9; the first refusal in the text (1 to 6, 8) or 12; 14, if the table has fewer than four words a node.
+ * Cost: the bytes from the position to the one that is left, or of 14 to the node's end.
+ */
+uint32_t sise_next_tree(const uint8_t *text, size_t text_len, uint64_t record[3], uint32_t *table, size_t table_len,
+                        uint64_t values[2]);
+
+/*
+ * Whether nothing but blanks and comments stands behind the last item. Answers 0. The record is as the last call left it.
  * Refused: 11; 10; the text's (1 to 4, 8); 7, with the place of what was found. Cost: the bytes from the position on, up to
  * what is found there.
  */
@@ -279,6 +292,16 @@ uint32_t sise_begin_list(const uint8_t *line_break, size_t line_break_len, const
 /* Ends the innermost open list. Refused: 11; 18 or 19; 22. Cost: the indentation's bytes and the bytes written. */
 uint32_t sise_end_list(const uint8_t *line_break, size_t line_break_len, const uint8_t *indentation, size_t indentation_len,
                        uint8_t *buf, size_t buf_len, uint64_t record[9], uint64_t values[2]);
+
+/*
+ * Puts the tree of the table's first node, by the items' calls one after the other: as sise_serialize_tree lays it out, behind
+ * what the record has written, with each item at the threshold break_line_at but a first child that is an atom, which stays on
+ * the line of its `(`. Answers the offset of the first item. It is put whole or not at all: a refusal leaves record and buffer.
+ * Refused: 13; 11; 15; 17; 19; 22. Cost: the nodes, the bytes of their atoms, and the bytes written.
+ */
+uint32_t sise_put_tree(const uint8_t *line_break, size_t line_break_len, const uint8_t *indentation, size_t indentation_len,
+                       uint8_t *buf, size_t buf_len, const uint8_t *text, size_t text_len, const uint32_t *table,
+                       size_t table_len, uint64_t break_line_at, uint64_t record[9], uint64_t values[2]);
 
 /*
  * Ends the text: with final_break a line_break is written behind it. Answers the text's length, which is the position.

@@ -1,4 +1,4 @@
-//! The Cargo package in rust/ beside the crate: the same program over both, one call of the proved library for each call of the API.
+//! The Cargo package in rust/ beside the crate: the same program over both, one call of the proved library for each call of the API, for a whole tree too.
 
 use crate::{repeated, ROUNDS};
 
@@ -158,6 +158,8 @@ pub fn rows(profile: &str, short: &str, deep: &str) {
     writing("written, deep, one line", deep, usize::MAX);
     trees("typical", profile, 80);
     trees("short atoms", short, 80);
+    trees("broken", profile, 0);
+    trees("10 kB", &super::typical(10_000), 80);
     row(
         "check_atom, short",
         1,

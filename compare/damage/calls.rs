@@ -4,8 +4,8 @@ use crate::answers::{refused, Reported};
 use crate::exported::{
     sise_atom_kind, sise_begin_list, sise_check_atom, sise_commit_tree, sise_count_items,
     sise_end_list, sise_find_path, sise_finish_reading, sise_finish_writing, sise_index_path,
-    sise_measure_tree, sise_next_item, sise_parse_tree, sise_put_atom, sise_read_items,
-    sise_serialize_tree, sise_write_calls, sise_write_calls_singly,
+    sise_measure_tree, sise_next_item, sise_next_tree, sise_parse_tree, sise_put_atom,
+    sise_put_tree, sise_read_items, sise_serialize_tree, sise_write_calls, sise_write_calls_singly,
 };
 use crate::guard::{Edge, Region};
 
@@ -394,6 +394,36 @@ impl Calls {
         (number, array(item.values()), array(record.values()))
     }
 
+    /// The answer, and the record's words and the table after the call.
+    pub fn next_tree(
+        &mut self,
+        text: &[u8],
+        record: [u64; 3],
+        table: &[u32],
+        edge: Edge,
+    ) -> (Reported, [u64; 3], Vec<u32>) {
+        self.made += 1;
+        let text = self.text.lend(text, edge);
+        let record = self.record.lend(&record, edge);
+        let table = self.filled.lend(table, edge);
+        let values = self.values.lend(&BEFORE, edge);
+        let number = unsafe {
+            sise_next_tree(
+                text.first(),
+                text.len(),
+                record.first(),
+                table.first(),
+                table.len(),
+                values.first(),
+            )
+        };
+        (
+            reported(number, &values.values()),
+            array(record.values()),
+            table.values(),
+        )
+    }
+
     pub fn finish_reading(&mut self, text: &[u8], record: [u64; 3], edge: Edge) -> Reported {
         self.made += 1;
         let text = self.text.lend(text, edge);
@@ -474,6 +504,49 @@ impl Calls {
                     values.first(),
                 ),
             }
+        };
+        (
+            reported(number, &values.values()),
+            array(record.values()),
+            buffer.values(),
+        )
+    }
+
+    /// The answer, and the record's words and the buffer after the call.
+    pub fn put_tree(
+        &mut self,
+        style: &Style,
+        buffer: &[u8],
+        text: &[u8],
+        table: &[u32],
+        break_line_at: u64,
+        record: [u64; 9],
+        edge: Edge,
+    ) -> (Reported, [u64; 9], Vec<u8>) {
+        self.made += 1;
+        let line_break = self.line_break.lend(&style.line_break, edge);
+        let indentation = self.indentation.lend(&style.indentation, edge);
+        let buffer = self.buffer.lend(buffer, edge);
+        let text = self.text.lend(text, edge);
+        let table = self.table.lend(table, edge);
+        let record = self.record.lend(&record, edge);
+        let values = self.values.lend(&BEFORE, edge);
+        let number = unsafe {
+            sise_put_tree(
+                line_break.first(),
+                line_break.len(),
+                indentation.first(),
+                indentation.len(),
+                buffer.first(),
+                buffer.len(),
+                text.first(),
+                text.len(),
+                table.first(),
+                table.len(),
+                break_line_at,
+                record.first(),
+                values.first(),
+            )
         };
         (
             reported(number, &values.values()),

@@ -4,6 +4,7 @@
 use crate::answers::Check;
 use crate::calls::{Call, Calls};
 use crate::damage::damage;
+use crate::inside;
 use crate::kinds;
 use crate::numbers::{bytes, hostile, len, threshold};
 use crate::random::Random;
@@ -53,6 +54,11 @@ fn held(calls: &mut Calls, random: &mut Random, texts: &Texts) -> Check {
     if random.percent(10) {
         damage(random, &mut tree.text);
     }
+    if random.percent(20) {
+        let words = records::writer(random, tree.buffer.len());
+        let put = inside::check_put(calls, &tree, words);
+        put.map_err(|rule| format!("{rule}; record {words:x?}; {}", tree_shown(&tree)))?;
+    }
     tree.check(calls)
         .map_err(|rule| format!("{rule}; {}", tree_shown(&tree)))
 }
@@ -77,9 +83,11 @@ fn checked(calls: &mut Calls, random: &mut Random, texts: &Texts) -> Check {
 /// A reader's record of any words.
 fn read_on(calls: &mut Calls, random: &mut Random, texts: &Texts) -> Check {
     let text = texts.text(random);
-    let words = records::reader(random, text.len());
-    singly::check_reader(calls, &text, words)
-        .map_err(|rule| format!("{rule}; record {words:x?}; {}", bytes_shown(&text)))
+    let record = records::reader(random, text.len());
+    let table = words(random, text.len());
+    inside::check_read(calls, &text, record, &table)
+        .and_then(|()| singly::check_reader(calls, &text, record))
+        .map_err(|rule| format!("{rule}; record {record:x?}; {}", bytes_shown(&text)))
 }
 
 /// A writer's record of any words.

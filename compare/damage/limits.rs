@@ -15,6 +15,8 @@ pub fn check(calls: &mut Calls) -> Check {
     let too_long = vec![b' '; LONGEST + 1];
     tree_calls(calls, &longest, [refused(5), 0, 2])?;
     tree_calls(calls, &too_long, [refused(13); 3])?;
+    record_calls(calls, &longest, [refused(5), 0, refused(11)])?;
+    record_calls(calls, &too_long, [refused(13); 3])?;
     atom_calls(calls)?;
     writer_calls(calls)
 }
@@ -60,6 +62,34 @@ fn tree_calls(calls: &mut Calls, text: &[u8], expected: [u64; 3]) -> Check {
     ensure(
         wrote == expected[2] && after == left,
         "serialize_tree at the longest text",
+    )
+}
+
+/// The answers of the two tree calls over a fresh record, and that of both over words that mean none: 13 comes before 11.
+fn record_calls(calls: &mut Calls, text: &[u8], expected: [u64; 3]) -> Check {
+    let (style, buffer, none) = (lines(), b"before", 4);
+    let (read, _, table) = twice(|edge| calls.next_tree(text, [0; 3], &LIST, edge))?;
+    ensure(
+        read.answer(text.len())? == expected[0] && table == LIST,
+        "next_tree at the longest text",
+    )?;
+    let (put, ..) = twice(|edge| calls.put_tree(&style, buffer, text, &LIST, 0, [0; 9], edge))?;
+    ensure(
+        put.answer(0)? == expected[1],
+        "put_tree at the longest text",
+    )?;
+    let words = [0, none, 0];
+    let (read, record, _) = twice(|edge| calls.next_tree(text, words, &LIST, edge))?;
+    ensure(
+        read.answer(text.len())? == expected[2] && record == words,
+        "next_tree at the longest text, over no record",
+    )?;
+    let words = [0, none, 0, 0, 0, 0, 0, 0, 0];
+    let (put, record, after) =
+        twice(|edge| calls.put_tree(&style, buffer, text, &LIST, 0, words, edge))?;
+    ensure(
+        put.answer(0)? == expected[2] && record == words && after == buffer,
+        "put_tree at the longest text, over no record",
     )
 }
 

@@ -13,6 +13,7 @@ mod deep;
 mod exported;
 mod forms;
 mod guard;
+mod inside;
 mod items;
 mod kinds;
 mod limits;

@@ -10,7 +10,7 @@ const FINISHING: u64 = 2;
 const DONE: u64 = 3;
 
 /// A record of the reader that is sound over a text of so many bytes.
-fn reader_is_sound([position, phase, lists]: [u64; 3], len: usize) -> bool {
+pub fn reader_is_sound([position, phase, lists]: [u64; 3], len: usize) -> bool {
     phase <= FINISHING
         && position <= len as u64
         && lists <= position
@@ -18,7 +18,7 @@ fn reader_is_sound([position, phase, lists]: [u64; 3], len: usize) -> bool {
 }
 
 /// A record of the writer that is sound.
-fn writer_is_sound(record: [u64; 9]) -> bool {
+pub fn writer_is_sound(record: [u64; 9]) -> bool {
     let [position, phase, lists, broken, beginning, line, spaces, breaks, indents] = record;
     phase <= DONE
         && beginning <= 1

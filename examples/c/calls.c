@@ -186,6 +186,23 @@ static void read_one_by_one(void) {
     }
 }
 
+/* Reads a list's children as trees, past a refusal, up to its `)`. */
+static void read_children(void) {
+    uint64_t record[3] = {0}, item[3] = {UNTOUCHED, UNTOUCHED, UNTOUCHED}, values[2] = {UNTOUCHED, UNTOUCHED};
+    uint32_t table[14];
+    uint32_t number = sise_next_item(BYTES("((ab c) ,d)"), record, item);
+    print_line("sise_next_item", number, item, 3);
+    for (int i = 0; i < 5; i++) {
+        for (size_t k = 0; k < 14; k++) {
+            table[k] = UNTOUCHED;
+        }
+        number = sise_next_tree(BYTES("((ab c) ,d)"), record, table, i == 0 ? 11 : 14, values);
+        print_result("sise_next_tree", number, values);
+        print_line("its record", number, record, 3);
+        print_table(table, 14);
+    }
+}
+
 /* Prints what a call answers, and the record and the buffer that it leaves. */
 static void print_call(const char *call, uint32_t number, const uint64_t values[2], const uint64_t record[9], const uint8_t *buf) {
     print_result(call, number, values);
@@ -217,6 +234,20 @@ static void write_one_by_one(void) {
     print_call("sise_end_list", number, values, record, buf);
 }
 
+/* Puts a subtree of the profile into a list, until it has no room. */
+static void put_children(const uint32_t *table) {
+    uint64_t record[9] = {0}, values[2] = {UNTOUCHED, UNTOUCHED};
+    uint8_t buf[BUFFER];
+    memset(buf, UNTOUCHED, BUFFER);
+    uint32_t number = sise_begin_list(LINE_BREAK, INDENTATION, buf, BUFFER, 7, record, values);
+    print_call("sise_begin_list", number, values, record, buf);
+    for (int i = 0; i < 4; i++) {
+        number = sise_put_tree(LINE_BREAK, INDENTATION, buf, BUFFER, BYTES(PROFILE), table + 8, 4 * NODES + 1 - 8, 7, record,
+                               values);
+        print_call("sise_put_tree", number, values, record, buf);
+    }
+}
+
 /* A text of spaces as long as a tree call reads, and one of a byte more: row 13 of document 01. */
 static void read_longest(void) {
     uint64_t values[2] = {UNTOUCHED, UNTOUCHED};
@@ -245,6 +276,8 @@ int main(void) {
     write_items();
     read_one_by_one();
     write_one_by_one();
+    read_children();
+    put_children(table);
     read_longest();
     return 0;
 }

@@ -31,7 +31,9 @@ fn numbers(result: Result<usize, Refusal>) -> (u32, u64, u64) {
         Err(Refusal::ParsingFinished) => (9, 0, 0),
         Err(Refusal::ParsingNotFinished) => (10, 0, 0),
         Err(Refusal::UnsoundRecord) => (11, 0, 0),
+        Err(Refusal::NodeExpected { place }) => (12, place, 0),
         Err(Refusal::TextTooLong) => (13, 0, 0),
+        Err(Refusal::TableFull) => (14, 0, 0),
         Err(Refusal::InvalidAtom) => (17, 0, 0),
         Err(Refusal::WritingFinished) => (19, 0, 0),
         Err(Refusal::NoRoom) => (22, 0, 0),
@@ -192,6 +194,22 @@ fn read_one_by_one() {
     }
 }
 
+/// Reads a list's children as trees, past a refusal, up to its `)`.
+fn read_children() {
+    let text = b"((ab c) ,d)";
+    let mut record = [0; 3];
+    let item = sise::next_item(text, &mut record).unwrap_or_default();
+    print_line("sise_next_item", 0, &item);
+    for i in 0..5 {
+        let mut table = [u32::from(UNTOUCHED); 14];
+        let len = if i == 0 { 11 } else { 14 };
+        let result = sise::next_tree(text, &mut record, &mut table[..len]);
+        print_result("sise_next_tree", result);
+        print_line("its record", numbers(result).0, &record);
+        print_words(table.map(u64::from));
+    }
+}
+
 /// Prints what a call answers, and the record and the buffer that it leaves.
 fn print_call(call: &str, result: Result<usize, Refusal>, record: &[u64; 9], buf: &[u8]) {
     let (number, first, second) = numbers(result);
@@ -223,6 +241,18 @@ fn write_one_by_one() {
     print_call("sise_end_list", result, &record, &buf);
 }
 
+/// Puts a subtree of the profile into a list, until it has no room.
+fn put_children(table: &[u32]) {
+    let mut record = [0; 9];
+    let mut buf = [UNTOUCHED; BUFFER];
+    let result = sise::begin_list(STYLE, &mut buf, 7, &mut record);
+    print_call("sise_begin_list", result, &record, &buf);
+    for _ in 0..4 {
+        let result = sise::put_tree(STYLE, &mut buf, PROFILE, &table[8..], 7, &mut record);
+        print_call("sise_put_tree", result, &record, &buf);
+    }
+}
+
 /// A text of spaces as long as a tree call reads, and one of a byte more: row 13 of document 01.
 fn read_longest() {
     let text = vec![b' '; sise::LONGEST + 1];
@@ -245,5 +275,7 @@ fn main() {
     write_items();
     read_one_by_one();
     write_one_by_one();
+    read_children();
+    put_children(&table);
     read_longest();
 }

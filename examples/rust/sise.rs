@@ -17,6 +17,7 @@ pub enum Refusal {
     ParsingFinished,
     ParsingNotFinished,
     UnsoundRecord,
+    NodeExpected { place: u64 },
     TextTooLong,
     TableFull,
     NotATree,
@@ -45,6 +46,7 @@ impl Refusal {
             9 => Self::ParsingFinished,
             10 => Self::ParsingNotFinished,
             11 => Self::UnsoundRecord,
+            12 => Self::NodeExpected { place },
             13 => Self::TextTooLong,
             14 => Self::TableFull,
             15 => Self::NotATree,
@@ -90,6 +92,7 @@ impl Display for Refusal {
             Self::ParsingFinished => of(f, 9, "the last item is read"),
             Self::ParsingNotFinished => of(f, 10, "the last item is not read yet"),
             Self::UnsoundRecord => of(f, 11, "no record of such a text or buffer"),
+            Self::NodeExpected { place } => at(f, 12, place, "a list closes where a node is due"),
             Self::TextTooLong => of(f, 13, "too long"),
             Self::TableFull => of(f, 14, "no room for what was read"),
             Self::NotATree => of(f, 15, "the table holds no tree"),
@@ -375,6 +378,20 @@ pub fn next_item(text: &[u8], record: &mut [u64; 3]) -> Result<[u64; 3], Refusal
     }
 }
 
+/// Reads the node due into the table, four words a node: the number of nodes. The record is that of `next_item`.
+pub fn next_tree(text: &[u8], record: &mut [u64; 3], table: &mut [u32]) -> Result<usize, Refusal> {
+    answered(|values| unsafe {
+        raw::sise_next_tree(
+            text.as_ptr(),
+            text.len(),
+            record,
+            table.as_mut_ptr(),
+            table.len(),
+            values,
+        )
+    })
+}
+
 /// Whether nothing stands behind the last item.
 pub fn finish_reading(text: &[u8], record: &[u64; 3]) -> Result<usize, Refusal> {
     answered(|values| unsafe {
@@ -439,6 +456,34 @@ pub fn end_list(style: Style, buf: &mut [u8], record: &mut [u64; 9]) -> Result<u
             style.indentation.len(),
             buf.as_mut_ptr(),
             buf.len(),
+            record,
+            values,
+        )
+    })
+}
+
+/// Puts the tree of a table's first node: the offset of its first item.
+pub fn put_tree(
+    style: Style,
+    buf: &mut [u8],
+    text: &[u8],
+    table: &[u32],
+    break_line_at: u64,
+    record: &mut [u64; 9],
+) -> Result<usize, Refusal> {
+    answered(|values| unsafe {
+        raw::sise_put_tree(
+            style.line_break.as_ptr(),
+            style.line_break.len(),
+            style.indentation.as_ptr(),
+            style.indentation.len(),
+            buf.as_mut_ptr(),
+            buf.len(),
+            text.as_ptr(),
+            text.len(),
+            table.as_ptr(),
+            table.len(),
+            break_line_at,
             record,
             values,
         )
@@ -590,6 +635,15 @@ mod raw {
             item: *mut [u64; 3],
         ) -> u32;
 
+        pub fn sise_next_tree(
+            text: *const u8,
+            text_len: usize,
+            record: *mut [u64; 3],
+            table: *mut u32,
+            table_len: usize,
+            values: *mut [u64; 2],
+        ) -> u32;
+
         pub fn sise_finish_reading(
             text: *const u8,
             text_len: usize,
@@ -630,6 +684,22 @@ mod raw {
             indentation_len: usize,
             buf: *mut u8,
             buf_len: usize,
+            record: *mut [u64; 9],
+            values: *mut [u64; 2],
+        ) -> u32;
+
+        pub fn sise_put_tree(
+            line_break: *const u8,
+            line_break_len: usize,
+            indentation: *const u8,
+            indentation_len: usize,
+            buf: *mut u8,
+            buf_len: usize,
+            text: *const u8,
+            text_len: usize,
+            table: *const u32,
+            table_len: usize,
+            break_line_at: u64,
             record: *mut [u64; 9],
             values: *mut [u64; 2],
         ) -> u32;

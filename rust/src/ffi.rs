@@ -32,6 +32,49 @@ pub fn next_item(text: &[u8], record: &mut [u64; 3], item: &mut [u64; 3]) -> u32
     unsafe { raw::sise_next_item(text.as_ptr(), text.len(), record, item) }
 }
 
+/// With the number of nodes, or with place and code point. The record is that of [`next_item`].
+fn next_tree(text: &[u8], record: &mut [u64; 3], table: &mut [u32]) -> (u32, [u64; 2]) {
+    valued(|values| unsafe {
+        raw::sise_next_tree(
+            text.as_ptr(),
+            text.len(),
+            record,
+            table.as_mut_ptr(),
+            table.len(),
+            values,
+        )
+    })
+}
+
+/// The words of the first table that is tried in the middle of a text.
+const FIRST_TABLE: usize = 4 * 1024;
+
+/// Reads the node due into a table, which is made longer where it is too short: at the beginning of a text as long as any node of it may want, for the node
+/// is all of the text, and in the middle of one little by little, for it may be small. With the number of nodes, or with place and code point.
+pub fn read_tree(text: &[u8], record: &mut [u64; 3], table: &mut Vec<u32>) -> (u32, [u64; 2]) {
+    // A node has a byte of the text or more. Words that nothing is written to cost no memory. A text that is too long is refused with any table.
+    let left = text.len().saturating_sub(record[0] as usize);
+    let most = match text.len() as u64 {
+        0..=LONGEST => 4 * left,
+        _ => 0,
+    };
+    let first = if record[1] == 0 {
+        most
+    } else {
+        most.min(FIRST_TABLE)
+    };
+    if table.len() < first {
+        *table = vec![0; first];
+    }
+    loop {
+        let answer = next_tree(text, record, table);
+        if answer.0 != 14 || most <= table.len() {
+            return answer;
+        }
+        *table = vec![0; most.min(8 * table.len())];
+    }
+}
+
 /// With place and code point.
 #[inline]
 pub fn finish_reading(text: &[u8], record: &[u64; 3]) -> (u32, [u64; 2]) {
@@ -336,6 +379,36 @@ impl<O: Out> Writing<'_, '_, O> {
         })
     }
 
+    /// The tree of a table, which has no words behind it, over a text. Room is made as for one line, and twice as much where that is too little, up to all
+    /// that a text may still have.
+    pub fn put_tree(&mut self, text: &[u8], table: &[u32], break_line_at: u64) -> Result<u64, u32> {
+        let all = (LONGEST - self.record[0]) as usize;
+        let mut most = line_len(table);
+        loop {
+            let answer = self.append(most, |strings, buf, room, record, values| unsafe {
+                raw::sise_put_tree(
+                    strings.line_break.as_ptr(),
+                    strings.line_break.len(),
+                    strings.indentation.as_ptr(),
+                    strings.indentation.len(),
+                    buf,
+                    room,
+                    text.as_ptr(),
+                    text.len(),
+                    table.as_ptr(),
+                    table.len(),
+                    break_line_at,
+                    record,
+                    values,
+                )
+            });
+            if answer != Err(22) || all <= most {
+                return answer;
+            }
+            most = most.saturating_mul(2);
+        }
+    }
+
     #[inline]
     pub fn finish(&mut self, final_break: bool) -> Result<u64, u32> {
         let most = self.strings.line_break.len();
@@ -391,6 +464,17 @@ impl<O: Out> Writing<'_, '_, O> {
     }
 }
 
+/// The bytes of a table's tree in one line, with a space before each node: of an atom one more than it has, of a list three.
+fn line_len(table: &[u32]) -> usize {
+    table
+        .chunks_exact(4)
+        .map(|node| match node[0] {
+            0 => 3,
+            _ => 1 + node[2] as usize,
+        })
+        .fold(0, usize::saturating_add)
+}
+
 /// The calls as the library has them: a slice is its first element's address and its length.
 mod raw {
     extern "C" {
@@ -403,6 +487,15 @@ mod raw {
             text_len: usize,
             record: *mut [u64; 3],
             item: *mut [u64; 3],
+        ) -> u32;
+
+        pub fn sise_next_tree(
+            text: *const u8,
+            text_len: usize,
+            record: *mut [u64; 3],
+            table: *mut u32,
+            table_len: usize,
+            values: *mut [u64; 2],
         ) -> u32;
 
         pub fn sise_finish_reading(
@@ -445,6 +538,22 @@ mod raw {
             indentation_len: usize,
             buf: *mut u8,
             buf_len: usize,
+            record: *mut [u64; 9],
+            values: *mut [u64; 2],
+        ) -> u32;
+
+        pub fn sise_put_tree(
+            line_break: *const u8,
+            line_break_len: usize,
+            indentation: *const u8,
+            indentation_len: usize,
+            buf: *mut u8,
+            buf_len: usize,
+            text: *const u8,
+            text_len: usize,
+            table: *const u32,
+            table_len: usize,
+            break_line_at: u64,
             record: *mut [u64; 9],
             values: *mut [u64; 2],
         ) -> u32;

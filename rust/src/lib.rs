@@ -1,8 +1,8 @@
 //! SISE profiles, proved: the API of the crate sise 0.8.0 over Dutakeri's library, in which every call is proved against its contract.
 //!
 //! A profile is a text of nested lists, as `(stage (axis x (limit -57.5 57.5)))`. A program that uses the crate sise 0.8.0 compiles against this package
-//! unchanged. Reading, writing and the check of an atom are calls of the proved library, one for each call of the API; the trees of Rust values above them
-//! ([`TreeNode`], [`parse_tree`], [`serialize_tree`], [`sise_tree!`]) are Rust. docs/DIFFERENCES.md of the repository has the few differences.
+//! unchanged. Reading, writing and the check of an atom are calls of the proved library, one for each call of the API, also where a whole tree is read or
+//! written; the trees of Rust values ([`TreeNode`], [`sise_tree!`]) are Rust. docs/DIFFERENCES.md of the repository has the few differences.
 //!
 //! ```
 //! use sise::{parse_tree, serialize_tree, Parser, Serializer, SerializerStyle};

@@ -50,6 +50,44 @@ use crate::{ParseError, ParsedItem, Parser, TreeNode};
 /// With "parsing finished", if the text's one node has been read; and as `unreachable!` does, if
 /// what stands there is the `)` of a list that was open before.
 pub fn parse_tree(parser: &mut Parser<'_>) -> Result<TreeNode, ParseError> {
+    match parser.next_tree() {
+        Some(read) => read.map(|(text, table)| node(text, table)),
+        None => parse_items(parser),
+    }
+}
+
+/// The node that the library read into a table: four words for each node in it, a list's children behind it.
+fn node(text: &str, table: &[u32]) -> TreeNode {
+    // The children so far of each list that is open, the innermost last, and how many it will have.
+    let mut open: Vec<(Vec<TreeNode>, usize)> = Vec::new();
+    for words in table.chunks_exact(4) {
+        let (first, second) = (words[1] as usize, words[2] as usize);
+        let mut node = match words[0] {
+            0 if first > 0 => {
+                open.push((Vec::with_capacity(first), first));
+                continue;
+            }
+            0 => TreeNode::List(Vec::new()),
+            _ => TreeNode::Atom(text[first..first + second].into()),
+        };
+        // The node may be the last of some lists.
+        loop {
+            let Some((mut list, due)) = open.pop() else {
+                return node;
+            };
+            list.push(node);
+            if list.len() < due {
+                open.push((list, due));
+                break;
+            }
+            node = TreeNode::List(list);
+        }
+    }
+    unreachable!("a table that was read holds a whole tree")
+}
+
+/// The node due, item by item: of a text that is longer than a tree call reads.
+fn parse_items(parser: &mut Parser<'_>) -> Result<TreeNode, ParseError> {
     // The children so far of each list that is open, the innermost last.
     let mut open: Vec<Vec<TreeNode>> = Vec::new();
     loop {

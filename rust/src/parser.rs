@@ -140,6 +140,8 @@ pub struct Parser<'a> {
     data: &'a str,
     /// Position, phase and open lists, as the library's calls keep them.
     record: [u64; 3],
+    /// What the last trees were read into, kept for the next one.
+    table: Vec<u32>,
 }
 
 impl<'a> Parser<'a> {
@@ -149,6 +151,7 @@ impl<'a> Parser<'a> {
         Self {
             data,
             record: [0; 3],
+            table: Vec::new(),
         }
     }
 
@@ -164,6 +167,23 @@ impl<'a> Parser<'a> {
             0 => Ok(self.item(item)),
             9 => panic!("parsing finished"),
             number => Err(ParseError::new(number, item[1], item[2])),
+        }
+    }
+
+    /// The node due, as the library reads it: the text, and the words of the table. `None` of a text that is too long for that.
+    ///
+    /// # Panics
+    ///
+    /// As [`parse_tree`](crate::parse_tree) does.
+    pub(crate) fn next_tree(&mut self) -> Option<Result<(&'a str, &[u32]), ParseError>> {
+        let (number, [first, second]) =
+            ffi::read_tree(self.data.as_bytes(), &mut self.record, &mut self.table);
+        match number {
+            0 => Some(Ok((self.data, &self.table[..4 * first as usize]))),
+            9 => panic!("parsing finished"),
+            12 => unreachable!(),
+            13 => None,
+            number => Some(Err(ParseError::new(number, first, second))),
         }
     }
 

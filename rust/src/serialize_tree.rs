@@ -1,3 +1,4 @@
+use crate::ffi::LONGEST;
 use crate::{Serializer, TreeNode};
 
 /// Writes a tree.
@@ -82,7 +83,7 @@ use crate::{Serializer, TreeNode};
 /// # Panics
 ///
 /// As [`Serializer::put_atom`] and [`Serializer::begin_list`] do; what comes before in the tree
-/// has been written then.
+/// has been written then: a tree that is not written as a whole is written call by call.
 pub fn serialize_tree(
     serializer: &mut Serializer<'_, '_>,
     root_node: &TreeNode,
@@ -92,6 +93,90 @@ pub fn serialize_tree(
         TreeNode::Atom(atom) => return serializer.put_atom(atom, break_line_at),
         TreeNode::List(list) => list,
     };
+    let written = Table::of(root)
+        .is_some_and(|table| serializer.put_tree(&table.text, &table.words, break_line_at));
+    if !written {
+        serialize_items(serializer, root, break_line_at);
+    }
+}
+
+/// A tree as the library's calls take it: its atoms behind each other, and four words for each node, a list's children behind it.
+#[derive(Default)]
+struct Table {
+    text: Vec<u8>,
+    words: Vec<u32>,
+}
+
+impl Table {
+    /// `None`, if the tree has more nodes or bytes than a text may have.
+    fn of(root: &[TreeNode]) -> Option<Self> {
+        let mut table = Self::default();
+        // The children still to come of each list that is open, the innermost last, and the list's number.
+        let mut open = vec![(root.iter(), table.begin_list(root.len(), 0))];
+        while let Some((children, list)) = open.last_mut() {
+            match children.next() {
+                Some(TreeNode::Atom(atom)) => table.put_atom(atom.as_bytes()),
+                Some(TreeNode::List(children)) => {
+                    let begun = table.begin_list(children.len(), *list);
+                    open.push((children.iter(), begun));
+                }
+                None => {
+                    table.end_list(*list);
+                    open.pop();
+                }
+            }
+            if table.nodes().max(table.text.len()) > LONGEST as usize {
+                return None;
+            }
+        }
+        Some(table)
+    }
+
+    fn nodes(&self) -> usize {
+        self.words.len() / 4
+    }
+
+    fn put_atom(&mut self, atom: &[u8]) {
+        let place = self.text.len() as u32;
+        self.words.extend([kind(atom), place, atom.len() as u32, 1]);
+        self.text.extend_from_slice(atom);
+    }
+
+    /// The list's number, by the number of the one that it stands in.
+    fn begin_list(&mut self, children: usize, outer: usize) -> usize {
+        let list = self.nodes();
+        self.words
+            .extend([0, children as u32, (list - outer) as u32, 0]);
+        list
+    }
+
+    fn end_list(&mut self, list: usize) {
+        self.words[4 * list + 3] = (self.nodes() - list) as u32;
+    }
+}
+
+/// Which atom the bytes are, if they are one: 1 plain, 2 one whole string, 3 any other. The library tests both.
+fn kind(atom: &[u8]) -> u32 {
+    if !atom.contains(&b'"') {
+        return 1;
+    }
+    let [b'"', inside @ ..] = atom else {
+        return 3;
+    };
+    let mut escaped = false;
+    let end = inside.iter().position(|&byte| {
+        let ends = byte == b'"' && !escaped;
+        escaped = byte == b'\\' && !escaped;
+        ends
+    });
+    match end {
+        Some(end) if end + 1 == inside.len() => 2,
+        _ => 3,
+    }
+}
+
+/// The list, call by call, up to the call that is refused.
+fn serialize_items(serializer: &mut Serializer<'_, '_>, root: &[TreeNode], break_line_at: usize) {
     serializer.begin_list(break_line_at);
     // The children still to come of each list that is open, the innermost last.
     let mut open = vec![root.iter()];

@@ -164,6 +164,13 @@ impl<'a, 'b> Serializer<'a, 'b> {
         }
     }
 
+    /// Writes the tree of a table over a text, if the library does not refuse it.
+    pub(crate) fn put_tree(&mut self, text: &[u8], table: &[u32], break_line_at: usize) -> bool {
+        self.writing
+            .put_tree(text, table, break_line_at as u64)
+            .is_ok()
+    }
+
     /// Ends the text, with a line break behind it if one is wished for.
     ///
     /// # Panics

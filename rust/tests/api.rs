@@ -1,8 +1,8 @@
 //! The crate's API: what holds on every character, at the limit of 16,777,216 bytes, in `const` places and for the macro.
 
 use sise::{
-    check_atom, is_atom_chr, is_atom_string_chr, parse_tree, serialize_tree, sise_tree, Parser,
-    Serializer, SerializerStyle, TreeNode,
+    check_atom, is_atom_chr, is_atom_string_chr, parse_tree, serialize_tree, sise_tree, ParsedItem,
+    Parser, Serializer, SerializerStyle, TreeNode,
 };
 use std::panic::{catch_unwind, AssertUnwindSafe};
 
@@ -132,6 +132,84 @@ fn deep_lists() {
         parser.next_item().unwrap();
     }
     parser.finish().unwrap();
+}
+
+/// Trees inside a list, small and large ones in turn: each is read whole, and the reader stands behind it.
+#[test]
+fn trees_read_inside() {
+    let sizes = [0, 1, 1000, 1100, 3, 9000, 70_000, 2];
+    let lists = sizes.map(|size| format!("({}) ", " a".repeat(size)));
+    let text = format!("({})", lists.concat());
+    let mut parser = Parser::new(&text);
+    parser.next_item().unwrap();
+    for size in sizes {
+        let tree = parse_tree(&mut parser).unwrap();
+        let list = tree.as_list().unwrap();
+        assert!(list.len() == size && list.iter().all(|node| *node == "a"));
+    }
+    let end = ParsedItem::ListEnd(text.len() - 1);
+    assert_eq!(parser.next_item(), Ok(end));
+    parser.finish().unwrap();
+}
+
+/// A tree inside a list, with more layout than atoms: what the calls one by one write.
+#[test]
+fn a_broad_tree() {
+    const DEPTH: usize = 60;
+    let style = SerializerStyle {
+        line_break: "\r\n\r\n",
+        indentation: &" ".repeat(100),
+    };
+    let tree = (0..DEPTH).fold(sise_tree!([]), |tree, _| sise_tree!(["a", tree, "\"b\""]));
+    let (mut out, mut due) = (String::new(), String::from("; before\n"));
+    let mut serializer = Serializer::new(style, &mut out);
+    serializer.begin_list(0);
+    serialize_tree(&mut serializer, &tree, 0);
+    serializer.end_list();
+    serializer.finish(true);
+    let mut serializer = Serializer::new(style, &mut due);
+    serializer.begin_list(0);
+    for _ in 0..DEPTH {
+        serializer.begin_list(0);
+        serializer.put_atom("a", usize::MAX);
+    }
+    serializer.begin_list(0);
+    for _ in 0..DEPTH {
+        serializer.end_list();
+        serializer.put_atom("\"b\"", 0);
+    }
+    serializer.end_list();
+    serializer.end_list();
+    serializer.finish(true);
+    assert_eq!(format!("; before\n{out}"), due);
+}
+
+/// A tree that cannot be written whole is written up to what is refused.
+#[test]
+fn a_tree_in_part() {
+    let mut out = String::new();
+    let mut serializer = Serializer::new(STYLE, &mut out);
+    serializer.begin_list(0);
+    let tree = sise_tree!(["a", ["b", "c d", "e"], "f"]);
+    assert_eq!(
+        panics(|| serialize_tree(&mut serializer, &tree, 0)),
+        "invalid atom \"c d\""
+    );
+    let tree = sise_tree!(["g", "x".repeat(LONGEST - 40), "y".repeat(40), "z"]);
+    assert_eq!(
+        panics(|| serialize_tree(&mut serializer, &tree, usize::MAX)),
+        "writing past 16777216 bytes"
+    );
+    for _ in 0..4 {
+        serializer.end_list();
+    }
+    assert_eq!(
+        panics(|| serialize_tree(&mut serializer, &tree, 0)),
+        "writing already finished"
+    );
+    serializer.finish(false);
+    let x = "x".repeat(LONGEST - 40);
+    assert!(out == format!("(\n  (a\n    (b (g {x}))\n  )\n)"));
 }
 
 #[test]

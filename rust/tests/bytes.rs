@@ -142,9 +142,51 @@ fn records_of_any_words() {
                 if !sound {
                     assert_eq!(reader.record(), record);
                 }
+                let mut reader = Reader::resume(TEXT, record);
+                let refusal = reader.next_tree().err();
+                let unsound = refusal.is_some_and(|r| r.reason == Reason::UnsoundRecord);
+                assert_eq!(unsound, !sound, "{record:?}");
+                if !sound {
+                    assert_eq!(reader.record(), record);
+                }
             }
         }
     }
+}
+
+/// A node in the middle of a text, and what a refused one leaves.
+#[test]
+fn trees_inside() {
+    let text = b"((a (b)) (c ,d) ()";
+    let mut reader = Reader::new(text);
+    reader.next_item().unwrap();
+    let tree = reader.next_tree().unwrap();
+    assert_eq!(
+        tree.table(),
+        [0, 2, 0, 4, 1, 2, 1, 1, 0, 1, 2, 2, 1, 5, 1, 1]
+    );
+    assert_eq!(tree.text(), text);
+    assert_eq!((reader.position(), reader.open()), (8, 1));
+    let refusal = reader.next_tree().unwrap_err();
+    assert_eq!(reasons(refusal), (1, Some(12), Some(',')));
+    assert_eq!((reader.position(), reader.open()), (13, 2));
+    assert_eq!(reader.next_tree().unwrap().root().bytes(), b"d");
+    assert_eq!(
+        reasons(reader.next_tree().unwrap_err()),
+        (12, Some(14), None)
+    );
+    assert_eq!((reader.position(), reader.open()), (15, 1));
+    assert_eq!(reader.next_tree().unwrap().nodes(), 1);
+    assert_eq!(
+        reasons(reader.next_tree().unwrap_err()),
+        (5, Some(18), None)
+    );
+    let mut out = Vec::new();
+    let mut writer = Writer::new(Layout::HOUSE, &mut out);
+    let number = |answer: Result<usize, Refusal>| answer.map_err(|refusal| refusal.number());
+    assert_eq!(number(writer.put_tree(tree.at(&[1]).unwrap(), 0)), Ok(0));
+    assert_eq!(number(writer.put_tree(tree.root(), 0)), Err(19));
+    assert_eq!(out, b"(b)");
 }
 
 /// Each broken character is one fault, and one column.

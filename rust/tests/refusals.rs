@@ -56,6 +56,11 @@ fn of_a_reading() {
 
 #[test]
 fn of_trees() {
+    let mut reader = Reader::new(b"()");
+    reader.next_item().unwrap();
+    let refusal = reader.next_tree().unwrap_err();
+    assert_eq!(shown(refusal), (12, Some(1), None));
+    assert_eq!(reader.record(), [2, 2, 0]);
     let spaces = vec![b' '; 16_777_217];
     assert_eq!(shown(Tree::parse(&spaces).unwrap_err()), (13, None, None));
     assert_eq!(

@@ -6,11 +6,12 @@ ghost use Rattle.std.specs.Prelude.{◌≡◌};
 ghost use Rattle.sise_serializer.specs.Calls.{put_atom_call, begin_list_call, end_list_call, finish_call};
 ghost use Rattle.sise_serializer.specs.Serializer.{style};
 ghost use Rattle.sise_c.specs.Reports.{Reports};
-ghost use Rattle.sise_c.specs.Singly.{ReportsNext, next_of, finish_of, call_on};
+ghost use Rattle.sise_c.specs.Singly.{ReportsNext, next_of, finish_of, call_on, next_tree_of, put_tree_of};
 
 use sise_c::{
     ItemWords, ReaderWords, Values, WriterWords, sise_begin_list, sise_end_list,
-    sise_finish_reading, sise_finish_writing, sise_next_item, sise_put_atom,
+    sise_finish_reading, sise_finish_writing, sise_next_item, sise_next_tree, sise_put_atom,
+    sise_put_tree,
 };
 
 // Reads the next item of the text. `item` is its kind, place and length; of a refusal 0, its place and code point. The record's words are for the next call.
@@ -26,6 +27,21 @@ pub fn finish_reading(text: &[u8], record: &ReaderWords, values: &mut Values) ->
     ensures { Reports (finish_of text.now «record».now) result values.new }
 {
     sise_finish_reading(text, record, values)
+}
+
+// Reads the node due into the table's first words. The first value is how many nodes it has; of a refusal the values are place and code point. The record's
+// words are for the next call.
+pub fn next_tree(
+    text: &[u8],
+    record: &mut ReaderWords,
+    table: &mut [u32],
+    values: &mut Values,
+) -> u32
+    ensures answer { Reports (next_tree_of text.now «record».old table.old).answer result values.new }
+    ensures words { «record».new ≡ (next_tree_of text.now «record».old table.old).words }
+    ensures nodes { table.new ≡ (next_tree_of text.now «record».old table.old).table }
+{
+    sise_next_tree(text, record, table, values)
 }
 
 // Puts an atom. The first value is its offset.
@@ -98,4 +114,31 @@ pub fn finish_writing(
     ensures bytes { buf.new ≡ (call_on (finish_call final_break) (style line_break.now indentation.now) «record».old buf.old).buffer }
 {
     sise_finish_writing(line_break, indentation, buf, final_break, record, values)
+}
+
+// Writes the tree that the table holds over `text` behind what the record has written. The first value is the offset of its first item.
+pub fn put_tree(
+    line_break: &[u8],
+    indentation: &[u8],
+    buf: &mut [u8],
+    text: &[u8],
+    table: &[u32],
+    break_line_at: u64,
+    record: &mut WriterWords,
+    values: &mut Values,
+) -> u32
+    ensures answer { Reports (put_tree_of (style line_break.now indentation.now) «record».old buf.old text.now table.now break_line_at).answer result values.new }
+    ensures words { «record».new ≡ (put_tree_of (style line_break.now indentation.now) «record».old buf.old text.now table.now break_line_at).words }
+    ensures bytes { buf.new ≡ (put_tree_of (style line_break.now indentation.now) «record».old buf.old text.now table.now break_line_at).buffer }
+{
+    sise_put_tree(
+        line_break,
+        indentation,
+        buf,
+        text,
+        table,
+        break_line_at,
+        record,
+        values,
+    )
 }

@@ -1,6 +1,6 @@
 -- The reader's and the writer's calls one by one, over the words of a record (document 01, "Refusals": "Reader: 11, then 9 or 10, then the text", and so on).
 -- Assumes nothing.
-use Rattle.std.specs.Prelude.{ℕ, ◌-◌, ◌^◌, ◌≡◌, cond, List, [], ◌∷◌, leb, length, take, Option, None, Some, Result}
+use Rattle.std.specs.Prelude.{ℕ, ◌≡◌, cond, List, [], ◌∷◌, ltb, length, take, Option, None, Some, Result}
 use Rattle.sise_parser.specs.Reader as reader
 use Rattle.sise_parser.specs.Reader.{next_item, Ending, ended, not_ended, finish_reading}
 use Rattle.sise_parser.specs.declared.reader.Reader.{Reader}
@@ -9,11 +9,14 @@ use Rattle.sise_serializer.specs.Calls.{Call, step}
 use Rattle.sise_serializer.specs.Serializer as serializer
 use Rattle.sise_serializer.specs.Serializer.{Style, Written}
 use Rattle.sise_serializer.specs.declared.serializer.Serializer.{Serializer}
+use Rattle.sise_serializer.specs.declared.serializer.WriteError.{WriteError}
 use Rattle.sise_tree.specs.Answers.{Answer, answered, refused, refused_with}
+use Rattle.sise_tree.specs.ParseTree.{longest, Parses, parse_tree}
+use Rattle.sise_tree_writer.specs.Answers.{put_as}
+use Rattle.sise_tree_writer.specs.SerializeTree.{Writes, serialize_tree}
+use Rattle.sise_tree_writer.specs.declared.serialize.WriteTreeError.{WriteTreeError}
 use Rattle.sise_c.specs.Items.{item_words}
 use Rattle.sise_c.specs.Records.{reader_of, reader_words, serializer_of, serializer_words}
-use Rattle.sise_c.specs.Reports.{Tells}
-use Rattle.sise_c.specs.declared.report.Numbered.{Numbered}
 
 -- ---- next_item
 
@@ -68,10 +71,6 @@ abbrev pub put_answer : serializer.Answer → Answer
 put_answer (serializer.Answer.accepted o) = answered o
 put_answer (serializer.Answer.refused n) = refused_with n
 
--- an answer by its word (Words.antt of sise_serializer)
-abbrev pub word_answer : ℕ → Answer
-word_answer n = cond (leb (2 ^ 32) n) (refused_with (n - 2 ^ 32)) (answered n)
-
 -- what is left: the answer, the record's words and the buffer
 pub record Leaves : Type 0 where
   pub answer : Answer
@@ -90,7 +89,47 @@ unfoldable pub call_on : Call → Style → List ℕ → List ℕ → Leaves
 call_on c s ws buf = call_by c s ws buf (serializer_of ws)
 
 -- a call that leaves d: its result, and how the record's words and the buffer end
-pub record Makes (d : Leaves) (r : Result (List ℕ) Numbered) (ws buf : List ℕ) : Type 0 where
-  pub answer : Tells (λ (e : Numbered). e.0) d.answer r
+pub record Makes (d : Leaves) (r : Result ℕ WriteError) (ws buf : List ℕ) : Type 0 where
+  pub answer : put_answer (serializer.answer_as r) ≡ d.answer
+  pub words : ws ≡ d.words
+  pub bytes : buf ≡ d.buffer
+
+-- ---- the tree calls: "`parse_tree`: 13, 11, 9, .." and "`serialize_tree`: 13, 11, 15, .."
+
+-- words that mean no record are unsound, and 13 comes before 11
+unfoldable pub no_record : List ℕ → Answer
+no_record text = refused_with (cond (ltb longest (length text)) 13 11)
+
+-- what reading a node leaves: the answer, the record's words and the table's
+pub record TreeStands : Type 0 where
+  pub answer : Answer
+  pub words : List ℕ
+  pub table : List ℕ
+
+abbrev pub tree_stands : Parses → TreeStands
+tree_stands d = record { answer = d.answer; words = reader_words d.reader; table = d.words }
+
+-- words that mean no record stay as they are, and so does the table
+unfoldable pub next_tree_by : List ℕ → List ℕ → List ℕ → Option Reader → TreeStands
+next_tree_by text ws table None = record { answer = no_record text; words = ws; table = table }
+next_tree_by text ws table (Some r) = tree_stands (parse_tree text r table)
+
+unfoldable pub next_tree_of : List ℕ → List ℕ → List ℕ → TreeStands
+next_tree_of text ws table = next_tree_by text ws table (reader_of ws)
+
+-- "a tree with its first item's" offset; a refusal leaves words and buffer
+abbrev pub tree_leaves : Writes → Leaves
+tree_leaves d = record { answer = d.answer; words = serializer_words d.serializer; buffer = d.buffer }
+
+unfoldable pub put_tree_by : Style → List ℕ → List ℕ → List ℕ → List ℕ → ℕ → Option Serializer → Leaves
+put_tree_by s ws buf text table t None = record { answer = no_record text; words = ws; buffer = buf }
+put_tree_by s ws buf text table t (Some w) = tree_leaves (serialize_tree s buf w text table t)
+
+unfoldable pub put_tree_of : Style → List ℕ → List ℕ → List ℕ → List ℕ → ℕ → Leaves
+put_tree_of s ws buf text table t = put_tree_by s ws buf text table t (serializer_of ws)
+
+-- a tree call that leaves d: its result, and how the record's words and the buffer end
+pub record PutsTree (d : Leaves) (r : Result ℕ WriteTreeError) (ws buf : List ℕ) : Type 0 where
+  pub answer : put_as r ≡ d.answer
   pub words : ws ≡ d.words
   pub bytes : buf ≡ d.buffer

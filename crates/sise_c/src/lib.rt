@@ -23,7 +23,7 @@ ghost use Rattle.sise_c.specs.Reports.{checked, Reports, ReportsFound, size_of, 
 ghost use Rattle.sise_c.specs.Items.{read_items};
 
 use items::read_items;
-pub use reading::{ItemWords, ReaderWords, sise_finish_reading, sise_next_item};
+pub use reading::{ItemWords, ReaderWords, sise_finish_reading, sise_next_item, sise_next_tree};
 pub use report::{CallCount, Size, Values};
 use report::{found_words, number_words, report, size_given, size_words, written};
 use sise_parser::answer_number;
@@ -32,7 +32,7 @@ use sise_tree::{TreeTable, parse_text};
 use sise_tree_writer::{commit_text, measure_text, write_text};
 use sise_util::{check_atom, kind_number};
 pub use writing::{
-    WriterWords, sise_begin_list, sise_end_list, sise_finish_writing, sise_put_atom,
+    WriterWords, sise_begin_list, sise_end_list, sise_finish_writing, sise_put_atom, sise_put_tree,
 };
 
 // Whether the bytes are an atom: 0 or 17.

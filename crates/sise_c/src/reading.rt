@@ -1,14 +1,16 @@
 // The reader's calls one by one, over the words of a record that the caller keeps: position, phase (0 beginning, 1 parsing, 2 finishing) and open lists.
 ghost use Rattle.std.specs.Prelude.{◌≡◌, take};
 ghost use Rattle.sise_parser.specs.Meaning.{answer_as, finished_as};
+ghost use Rattle.sise_tree.specs.Answers.{parsed_as};
 ghost use Rattle.sise_c.specs.Items.{item_words};
 ghost use Rattle.sise_c.specs.Records.{reader_of, reader_words};
 ghost use Rattle.sise_c.specs.Reports.{Reports};
-ghost use Rattle.sise_c.specs.Singly.{ReportsNext, next_of, ending_answer, finish_of};
+ghost use Rattle.sise_c.specs.Singly.{ReportsNext, next_of, ending_answer, finish_of, next_tree_of};
 
 use crate::items::item_words;
-use crate::report::{Values, report};
+use crate::report::{Values, number_words, report};
 use sise_parser::{ParseError, ParsedItem, Phase, Reader};
+use sise_tree::{LONGEST, TreeError, parse_tree};
 
 // A reader's record in words: C keeps it between the calls, and include/sise.h has it as an array.
 pub type ReaderWords = [u64; 3];
@@ -84,4 +86,37 @@ pub fn sise_finish_reading(text: &[u8], record: &ReaderWords, values: &mut Value
     ensures { Reports (finish_of text.now «record».now) result values.new }
 {
     report(finish(text, record).and(Ok([0, 0])), values)
+}
+
+// The node due by the record that the words mean, which become those of the record after it, of a refusal too. Words that mean none are refused and stay.
+#[tactic(auto, unfolding(crate::specs::Singly::next_tree_of, crate::specs::Singly::next_tree_by, crate::specs::Singly::no_record))]
+fn next_tree(text: &[u8], record: &mut ReaderWords, table: &mut [u32]) -> Result<usize, TreeError>
+    ensures answer { parsed_as result ≡ (next_tree_of text.now «record».old table.old).answer }
+    ensures words { «record».new ≡ (next_tree_of text.now «record».old table.old).words }
+    ensures nodes { table.new ≡ (next_tree_of text.now «record».old table.old).table }
+{
+    let unread = if text.len() > LONGEST {
+        TreeError::TextTooLong
+    } else {
+        TreeError::Refused(ParseError::UnsoundRecord)
+    };
+    let reader = reader_of(record).ok_or(unread)?;
+    let read = parse_tree(text, reader, table);
+    *record = reader_words(read.reader);
+    read.answer
+}
+
+// Reads the node due into the table's first words. The first value is how many nodes it has; of a refusal the values are place and code point. The record's
+// words are for the next call.
+pub fn sise_next_tree(
+    text: &[u8],
+    record: &mut ReaderWords,
+    table: &mut [u32],
+    values: &mut Values,
+) -> u32
+    ensures answer { Reports (next_tree_of text.now «record».old table.old).answer result values.new }
+    ensures words { «record».new ≡ (next_tree_of text.now «record».old table.old).words }
+    ensures nodes { table.new ≡ (next_tree_of text.now «record».old table.old).table }
+{
+    report(next_tree(text, record, table).map(number_words), values)
 }

@@ -1,12 +1,11 @@
 // How an answer is reported: its number as the result, its values in the words that the caller lent. What makes words of an answer, or a size of words, is a
 // function and no From: neither the answers nor arrays of words are types of this crate.
 ghost use Rattle.std.specs.Prelude.{◌≡◌, ◌≤◌, [], ◌∷◌, Ok, MatchResult};
-ghost use Rattle.sise_parser.specs.Refusals.{refusal};
 ghost use Rattle.sise_tree_writer.specs.Answers.{put_as, error_number};
 ghost use Rattle.sise_tree_writer.specs.Sizes.{measured_as};
 ghost use Rattle.sise_c.specs.Reports.{refusal_words, Tells, size_or, size_given};
 
-use sise_parser::{Refusal, RefusalNumbers};
+use sise_parser::Refusal;
 use sise_tree::Found;
 use sise_tree_writer::{TreeSize, TreeWrote, WriteTreeError};
 
@@ -60,19 +59,6 @@ pub(crate) fn found_words(found: Found) -> Values
     ensures { result ≡ found.index ∷ found.seen ∷ [] }
 {
     [found.index as u64, found.seen as u64]
-}
-
-// A refusal of a single call, by its number. It stays a number: word_answer reads it back from the word in which a list of calls answers, and no clause of that
-// says which refusals there are; an error of the writer would be made by a second table of the numbers.
-#[derive(Clone, Copy, Debug, PartialEq, Eq)]
-pub(crate) struct Numbered(pub(crate) u32);
-
-impl Refusal for Numbered {
-    ghost meaning = { λ e. refusal e.0 0 0 };
-
-    fn numbers(self) -> RefusalNumbers {
-        RefusalNumbers::unplaced(self.0)
-    }
 }
 
 // What is reported of a tree written from the buffer's start: how many bytes the text has.

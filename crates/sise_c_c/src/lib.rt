@@ -1,6 +1,6 @@
-// The calls of sise_c for programs in C and Rust: include/sise.h declares them and says what a caller owes. Each calls the library's function of its name,
-// under the contract that it has there. The bodies stand in sise_c, which the contract crates call: a crate is a library or a static
-// library, and not both.
+// The calls of sise_c that do a whole job, for programs in C and Rust: include/sise.h declares them and says what a caller owes. Each calls the library's
+// function of its name, under the contract that it has there. The bodies stand in sise_c, which the contract crates call: a crate is a library or a static
+// library, and not both. The single calls are exported by sise_c_singly.
 #![tactic(auto)]
 
 ghost use Rattle.std.specs.Prelude.{◌≡◌, [], ◌∷◌, length};
@@ -13,10 +13,8 @@ ghost use Rattle.sise_tree.specs.ParseText.{parse_text};
 ghost use Rattle.sise_tree_writer.specs.Writing.{write_text};
 ghost use Rattle.sise_c.specs.Reports.{checked, Reports, ReportsFound, size_of, ReportsSize, TellsCommit, WritesCommit};
 ghost use Rattle.sise_c.specs.Items.{read_items};
-ghost use Rattle.sise_c.specs.Singly.{ReportsNext, next_of, finish_of, call_on};
-ghost use Rattle.sise_serializer.specs.Calls.{put_atom_call, begin_list_call, end_list_call, finish_call};
 
-use sise_c::{CallCount, ItemWords, ReaderWords, Size, Values, WriterWords};
+use sise_c::{CallCount, Size, Values};
 
 // Whether the bytes are an atom: 0 or 17.
 #[unsafe(no_mangle)]
@@ -178,97 +176,4 @@ pub extern "C" fn sise_write_calls(
     ensures ran { ran.new ≡ length (calls_of words.now atoms.now (length answers.old)) ∷ [] }
 {
     sise_c::sise_write_calls(words, atoms, line_break, indentation, buf, answers, ran)
-}
-
-// Reads the next item of the text. `item` is its kind, place and length; of a refusal 0, its place and code point. The record's words are for the next call.
-#[unsafe(no_mangle)]
-pub extern "C" fn sise_next_item(text: &[u8], record: &mut ReaderWords, item: &mut ItemWords) -> u32
-    ensures answer { ReportsNext (next_of text.now «record».old).answer result item.new }
-    ensures words { «record».new ≡ (next_of text.now «record».old).words }
-{
-    sise_c::sise_next_item(text, record, item)
-}
-
-// Whether the text ends after the last item. The record's words are of no use after it.
-#[unsafe(no_mangle)]
-pub extern "C" fn sise_finish_reading(text: &[u8], record: &ReaderWords, values: &mut Values) -> u32
-    ensures { Reports (finish_of text.now «record».now) result values.new }
-{
-    sise_c::sise_finish_reading(text, record, values)
-}
-
-// Puts an atom. The first value is its offset.
-#[unsafe(no_mangle)]
-pub extern "C" fn sise_put_atom(
-    line_break: &[u8],
-    indentation: &[u8],
-    buf: &mut [u8],
-    atom: &[u8],
-    break_line_at: u64,
-    record: &mut WriterWords,
-    values: &mut Values,
-) -> u32
-    ensures answer { Reports (call_on (put_atom_call atom.now break_line_at) (style line_break.now indentation.now) «record».old buf.old).answer result values.new }
-    ensures words { «record».new ≡ (call_on (put_atom_call atom.now break_line_at) (style line_break.now indentation.now) «record».old buf.old).words }
-    ensures bytes { buf.new ≡ (call_on (put_atom_call atom.now break_line_at) (style line_break.now indentation.now) «record».old buf.old).buffer }
-{
-    sise_c::sise_put_atom(
-        line_break,
-        indentation,
-        buf,
-        atom,
-        break_line_at,
-        record,
-        values,
-    )
-}
-
-// Begins a list. The first value is the offset of its `(`.
-#[unsafe(no_mangle)]
-pub extern "C" fn sise_begin_list(
-    line_break: &[u8],
-    indentation: &[u8],
-    buf: &mut [u8],
-    break_line_at: u64,
-    record: &mut WriterWords,
-    values: &mut Values,
-) -> u32
-    ensures answer { Reports (call_on (begin_list_call break_line_at) (style line_break.now indentation.now) «record».old buf.old).answer result values.new }
-    ensures words { «record».new ≡ (call_on (begin_list_call break_line_at) (style line_break.now indentation.now) «record».old buf.old).words }
-    ensures bytes { buf.new ≡ (call_on (begin_list_call break_line_at) (style line_break.now indentation.now) «record».old buf.old).buffer }
-{
-    sise_c::sise_begin_list(line_break, indentation, buf, break_line_at, record, values)
-}
-
-// Ends the innermost open list. The first value is the offset of its `)`.
-#[unsafe(no_mangle)]
-pub extern "C" fn sise_end_list(
-    line_break: &[u8],
-    indentation: &[u8],
-    buf: &mut [u8],
-    record: &mut WriterWords,
-    values: &mut Values,
-) -> u32
-    ensures answer { Reports (call_on end_list_call (style line_break.now indentation.now) «record».old buf.old).answer result values.new }
-    ensures words { «record».new ≡ (call_on end_list_call (style line_break.now indentation.now) «record».old buf.old).words }
-    ensures bytes { buf.new ≡ (call_on end_list_call (style line_break.now indentation.now) «record».old buf.old).buffer }
-{
-    sise_c::sise_end_list(line_break, indentation, buf, record, values)
-}
-
-// Ends the text, with a line break if wished. The first value is the text's end.
-#[unsafe(no_mangle)]
-pub extern "C" fn sise_finish_writing(
-    line_break: &[u8],
-    indentation: &[u8],
-    buf: &mut [u8],
-    final_break: bool,
-    record: &mut WriterWords,
-    values: &mut Values,
-) -> u32
-    ensures answer { Reports (call_on (finish_call final_break) (style line_break.now indentation.now) «record».old buf.old).answer result values.new }
-    ensures words { «record».new ≡ (call_on (finish_call final_break) (style line_break.now indentation.now) «record».old buf.old).words }
-    ensures bytes { buf.new ≡ (call_on (finish_call final_break) (style line_break.now indentation.now) «record».old buf.old).buffer }
-{
-    sise_c::sise_finish_writing(line_break, indentation, buf, final_break, record, values)
 }

@@ -1,4 +1,4 @@
-use super::Refusal;
+use super::{Refusal, Tree};
 use crate::ffi;
 
 /// An item of a text. A place is a byte's offset.
@@ -148,6 +148,31 @@ impl<'a> Reader<'a> {
             1 => Item::ListStart { place },
             _ => Item::ListEnd { place },
         })
+    }
+
+    /// The node due, an atom or a list to its end, as a tree. Refused: 13; 11; 9; 1 to 6 and 8, where the reader stands as [`Reader::next_item`] leaves it that
+    /// meets the fault; 12, where what stands there is the `)` of a list that was open before, which is passed.
+    ///
+    /// ```
+    /// use sise::bytes::{Layout, Reader, Reason};
+    ///
+    /// let mut reader = Reader::new(b"(limits (x -57.5 57.5) (y 0 12))");
+    /// reader.next_item()?;
+    /// reader.next_item()?;
+    /// let x = reader.next_tree()?;
+    /// assert_eq!(x.root().write(Layout::LINE)?, b"(x -57.5 57.5)");
+    /// assert_eq!(x.at(&[1])?.place(), Some(11));
+    /// assert_eq!(reader.next_tree()?.nodes(), 4);
+    /// assert_eq!(reader.next_tree().unwrap_err().reason, Reason::NodeExpected);
+    /// assert_eq!(reader.finish(), Ok(()));
+    /// # Ok::<(), sise::bytes::Refusal>(())
+    /// ```
+    pub fn next_tree(&mut self) -> Result<Tree<'a>, Refusal> {
+        let mut table = Vec::new();
+        match ffi::read_tree(self.text, &mut self.record, &mut table) {
+            (0, [nodes, _]) => Ok(Tree::read(self.text, table, nodes as usize)),
+            (number, values) => Err(Refusal::new(number, values)),
+        }
     }
 
     /// Whether nothing but blanks and comments stands behind the text's one node. Refused: 11; 10, if that node has not been read to its end; 1 to 4, 7

@@ -123,7 +123,7 @@ impl Reason {
 pub struct Refusal {
     /// Why
     pub reason: Reason,
-    /// The offset of a byte in the text, of the refusals 1 to 8
+    /// The offset of a byte in the text, of the refusals 1 to 8 and 12
     pub place: Option<usize>,
     /// The character there, of the refusals 1 to 3
     pub chr: Option<char>,
@@ -136,7 +136,7 @@ impl Refusal {
         let Some(reason) = Reason::by_number(number) else {
             unreachable!("no call is refused with {number}")
         };
-        let place = (number <= 8).then_some(place as usize);
+        let place = matches!(number, 1..=8 | 12).then_some(place as usize);
         let chr = if number <= 3 {
             char::from_u32(code as u32)
         } else {

@@ -67,9 +67,14 @@ impl<'a> Tree<'a> {
         };
         let mut table = vec![0; words];
         let nodes = lent::parse_tree(text, &mut table)?;
+        Ok(Self::read(text, table, nodes))
+    }
+
+    /// A text, and a table that was read from it.
+    pub(super) fn read(text: &'a [u8], mut table: Vec<u32>, nodes: usize) -> Self {
         table.truncate(4 * nodes);
         table.shrink_to_fit();
-        Ok(Self { text, table })
+        Self { text, table }
     }
 
     /// The text that the tree was read from.
@@ -117,6 +122,12 @@ pub struct Node<'t> {
 impl<'t> Node<'t> {
     fn words(&self) -> &'t [u32] {
         &self.tree.table[4 * self.index..][..4]
+    }
+
+    /// The text, and the node's own part of the table.
+    pub(super) fn part(&self) -> (&'t [u8], &'t [u32]) {
+        let words = &self.tree.table[4 * self.index..][..4 * self.nodes()];
+        (self.tree.text, words)
     }
 
     /// The node's index in the table.

@@ -1,4 +1,4 @@
-use super::{Layout, Refusal};
+use super::{Layout, Node, Refusal};
 use crate::ffi::{Strings, Writing};
 
 /// Writes a text call by call, behind what a vector holds. Each call answers the offset of what it wrote, from the text's first byte; a refused one leaves
@@ -54,6 +54,28 @@ impl<'a, 'b> Writer<'a, 'b> {
     /// Writes a list's `)`, on a new line if a line was broken in the list. Refused: 18 or 19, 22.
     pub fn end_list(&mut self) -> Result<usize, Refusal> {
         answered(self.writing.end_list())
+    }
+
+    /// Writes a node of a tree, with all that is in it, and answers the offset of its first item. The first child of each list, if an atom, stays on the line of
+    /// its `(`; every other item goes to a new line if the line so far has `break_line_at` bytes or more. It is written whole or not at all. Refused: 19, 22.
+    ///
+    /// ```
+    /// use sise::bytes::{Layout, Tree, Writer, ONE_LINE};
+    ///
+    /// let tree = Tree::parse(b"(limits (x -57.5 57.5) (y 0 12))")?;
+    /// let mut out = Vec::new();
+    /// let mut writer = Writer::new(Layout::HOUSE, &mut out);
+    /// writer.begin_list(ONE_LINE)?;
+    /// assert_eq!(writer.put_tree(tree.at(&[2])?, ONE_LINE), Ok(1));
+    /// assert_eq!(writer.put_tree(tree.at(&[1, 0])?, 8), Ok(12));
+    /// writer.end_list()?;
+    /// writer.finish(true)?;
+    /// assert_eq!(out, b"((y 0 12)\n  x\n)\n");
+    /// # Ok::<(), sise::bytes::Refusal>(())
+    /// ```
+    pub fn put_tree(&mut self, node: Node, break_line_at: u64) -> Result<usize, Refusal> {
+        let (text, table) = node.part();
+        answered(self.writing.put_tree(text, table, break_line_at))
     }
 
     /// Ends the text, and answers its length. Refused: 20 or 19, 22.

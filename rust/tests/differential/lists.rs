@@ -96,7 +96,7 @@ impl Maker {
         } else {
             4 + text.len() / 3
         };
-        let trees = self.random.pick(&[0, 0, 5, 30]);
+        let trees = self.random.pick(&[0, 5, 30, 80]);
         let call = |random: &mut Random| {
             if random.percent(trees) {
                 Read::ParseTree
@@ -157,6 +157,7 @@ impl Maker {
         let opening = self.random.pick(&[5, 30, 60, 95]);
         let closing = self.random.pick(&[5, 30, 60]);
         let wrong = self.random.pick(&[0, 0, 3, 30]);
+        let trees = self.random.pick(&[10, 50]);
         let mut open = 0usize;
         for _ in 0..self.random.below(40) {
             if self.random.percent(wrong) {
@@ -170,7 +171,7 @@ impl Maker {
             } else if open == 0 || self.random.percent(opening) {
                 calls.push(Write::BeginList(self.threshold()));
                 open += 1;
-            } else if self.random.percent(10) {
+            } else if self.random.percent(trees) {
                 calls.push(Write::Tree(self.shape(), self.threshold()));
             } else {
                 calls.push(Write::PutAtom(self.atom(), self.threshold()));
