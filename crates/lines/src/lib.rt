@@ -8,9 +8,9 @@ use sise_parser::{ParsedItem, Refusal, RefusalNumbers};
 use std::marker::Model;
 
 // The standard streams by their numbers. libc names them too: one more crate to list, for two numbers that `io` takes as numbers.
-const STDIN: i32 = 0;
+pub const STDIN: i32 = 0;
 
-const STDOUT: i32 = 1;
+pub const STDOUT: i32 = 1;
 
 // Reads standard input into `bytes`, until they are full, it ends or a read fails: the bytes read. No clause can say what a file holds.
 pub fn read_input(bytes: &mut [u8]) -> &[u8]
@@ -51,7 +51,7 @@ impl Printer {
     }
 
     // Writes the bytes that wait to standard output. A write that fails is not reported.
-    fn flush(&mut self)
+    pub fn flush(&mut self)
         ensures { self.new ≡ output 0 self.old.bytes }
     {
         io::write_all(STDOUT, &self.block[..self.place]);

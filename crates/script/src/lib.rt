@@ -40,7 +40,7 @@ pub struct WriterCase<'a> {
 
 // The number of 64 bits that a number of the script stands for.
 #[tactic(auto, unfolding(crate::specs::Numbers::number_meant))]
-pub(crate) fn meant(number: usize) -> u64
+pub fn meant(number: usize) -> u64
     ensures { result ≡ number_meant number }
 {
     if number == LARGEST {
@@ -111,7 +111,7 @@ impl<'a> Script<'a> {
     }
 
     // The number that ends before the byte `end`. One of 1,000,000,000 or more is malformed, so that no sum wraps.
-    pub(crate) fn read_number(&mut self, end: u8) -> Result<usize, Malformed>
+    pub fn read_number(&mut self, end: u8) -> Result<usize, Malformed>
         ensures { IfOk result (λ n. Number end self.old n self.new) }
     {
         let mut value = 0;
@@ -130,7 +130,7 @@ impl<'a> Script<'a> {
     }
 
     // A space and a number after it.
-    pub(crate) fn read_field(&mut self, end: u8) -> Result<usize, Malformed>
+    pub fn read_field(&mut self, end: u8) -> Result<usize, Malformed>
         ensures { IfOk result (λ n. Field end self.old n self.new) }
     {
         self.read_byte(b' ')?;
