@@ -7,7 +7,8 @@
 // decoder (`compare/run characters`).
 #![tactic(auto)]
 
-ghost use Rattle.std.specs.Prelude.{◌<◌};
+ghost use Rattle.std.specs.Prelude.{◌≡◌, ◌<◌};
+ghost use Rattle.characters.specs.Digits.{digit_value};
 
 use lines::Printer;
 use sise_util::classes::class_of;
@@ -72,11 +73,16 @@ fn put_case_line(out: &mut Printer, case: &[u8]) {
     out.put_byte(b'\n');
 }
 
-// A digit's value, and 0 for other bytes.
+// A digit's value, and 0 for other bytes, the letters `a` to `f` among them.
+#[tactic(auto, unfolding(crate::specs::Digits::digit_value))]
 fn digit_value(digit: u8) -> u8
-    ensures { result < 16 }
+    ensures value { result ≡ digit_value digit }
+    ensures below { result < 16 }
 {
-    (digit as char).to_digit(16).unwrap_or(0) as u8
+    match digit {
+        b'a'..=b'f' => 0,
+        _ => (digit as char).to_digit(16).unwrap_or(0) as u8,
+    }
 }
 
 // Puts the bytes that the digits stand for, two for each byte, at the start of the buffer, and answers them.

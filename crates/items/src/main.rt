@@ -21,14 +21,14 @@ fn put_finished(out: &mut Printer, finished: Result<(), ParseError>)
     out.put_byte(b'\n');
 }
 
-// Each turn but the last reads an item, and a text of n bytes has n items at most, so that n + 1 turns are enough. No iterator over the items: the record goes
-// by value from call to call, as document 01 names the form, and an iterator would keep it behind a `&mut`.
+// Each turn but the last reads an item, and a text of n bytes has n items at most, so that n + 1 turns are enough. The turns are counted down, and no `for`
+// over a range: that the loop ends is a fact of the count, which a proof states. No iterator over the items: the record goes by value from call to call, as
+// document 01 names the form, and an iterator would keep it behind a `&mut`.
 fn put_items(out: &mut Printer, text: &[u8]) -> Result<(), ParseError> {
     let mut reader = Reader::new();
-    for _ in 0..=text.len() {
-        if reader.phase == Phase::Finishing {
-            break;
-        }
+    let mut turns = text.len() + 1;
+    while 0 < turns && reader.phase != Phase::Finishing {
+        turns -= 1;
         let next = reader.next_item(text);
         reader = next.reader;
         out.put_item(next.answer?);

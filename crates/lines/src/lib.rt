@@ -20,24 +20,24 @@ pub fn read_input(bytes: &mut [u8]) -> &[u8]
     &bytes[..n]
 }
 
-// A program's output: the block, and the place behind the bytes in it that wait to be written. A clause sees both as an `Output`. It cannot be dropped, so
-// that a program has to end with `finish`, and no byte stays in the block. It is a block and a place, and no `Vec`, since the project uses no heap. A
-// value's text is put by a method or by a function over a printer, and no value has a `Display`: `write!` promises its text only where it answers `Ok`, and
-// no clause says that it does; the methods here cannot fail, and promise each byte.
+// Where the bytes of a program's output wait to be written.
+pub type Block = [u8; 4096];
+
+// A program's output: the block, and the place behind the bytes in it that wait to be written. A clause sees both as an `Output`. Both can be read and set.
+// It cannot be dropped, so that a program has to end with `finish`, and no byte stays in the block; only a pattern that names both fields takes it apart. It
+// is a block and a place, and no `Vec`, since the project uses no heap. A value's text is put by a method or by a function over a printer, and no value has a
+// `Display`: `write!` promises its text only where it answers `Ok`, and no clause says that it does; the methods here cannot fail, and promise each byte.
 pub struct Printer {
-    place: usize,
-    block: [u8; 4096],
+    pub place: usize,
+    pub block: Block,
 }
 
 impl Model for Printer {
-    ghost use Rattle.std.specs.Prelude.{◌≤◌};
     ghost use Rattle.lines.specs.Put.{Output, output};
 
     ghost Value = { Output };
 
     ghost view = { λ p. output p.place p.block };
-
-    ghost invariant = { λ p. p.place ≤ 4096 };
 }
 
 impl Printer {
@@ -50,11 +50,13 @@ impl Printer {
         }
     }
 
-    // Writes the bytes that wait to standard output. A write that fails is not reported.
+    // Writes the bytes that wait to standard output: none for a place past the block. A write that fails is not reported.
     pub fn flush(&mut self)
         ensures { self.new ≡ output 0 self.old.bytes }
     {
-        io::write_all(STDOUT, &self.block[..self.place]);
+        if let Some(bytes) = self.block.get(..self.place) {
+            io::write_all(STDOUT, bytes);
+        }
         self.place = 0;
     }
 
@@ -64,10 +66,12 @@ impl Printer {
         let Printer { place: _, block: _ } = self;
     }
 
+    // Puts a byte behind those that wait. At the block's end, and at a place past it, the whole block is written first.
     pub fn put_byte(&mut self, byte: u8)
         ensures { self.new ≡ put self.old (byte ∷ []) }
     {
         if self.block.len() <= self.place {
+            self.place = self.block.len();
             self.flush();
         }
         self.block[self.place] = byte;

@@ -1,12 +1,15 @@
 // The writer's cases.
 ghost use Rattle.std.specs.Prelude.{OnOk};
 ghost use Rattle.script.specs.Onward.{Onward};
+ghost use Rattle.sise_serializer.specs.Serializer.{style_of};
+ghost use Rattle.sise_serializer.specs.Calls.{Does};
+ghost use Rattle.sise_serializer.specs.Words.{call_as};
 
 use crate::FILL;
 use lines::Printer;
 use script::{MAX_LEN, Malformed, Script};
 use sise_parser::Refusal;
-use sise_serializer::Serializer;
+use sise_serializer::{Call, Serializer, SerializerStyle, Wrote};
 
 // Numbers behind their mark, or a refusal's number.
 pub(crate) fn put_answer<E: Refusal, const N: usize>(
@@ -46,6 +49,26 @@ pub(crate) fn put_call<E: Refusal>(out: &mut Printer, answer: Result<usize, E>, 
     out.put_byte(b'\n');
 }
 
+// Makes a call by its own method, and not by `Serializer::make_call`: the comparison with the crate is one of the four methods.
+fn make_call(
+    serializer: Serializer,
+    call: Call<'_>,
+    style: SerializerStyle<'_>,
+    buf: &mut [u8],
+) -> Wrote
+    ensures { Does (call_as call.entry) (style_of style.entry) serializer buf.old result buf.new }
+{
+    match call {
+        Call::PutAtom {
+            atom,
+            break_line_at,
+        } => serializer.put_atom(style, buf, atom, break_line_at),
+        Call::BeginList { break_line_at } => serializer.begin_list(style, buf, break_line_at),
+        Call::EndList => serializer.end_list(style, buf),
+        Call::Finish { insert_line_break } => serializer.finish(style, buf, insert_line_break),
+    }
+}
+
 // Runs the writer's case whose letter was read: makes its calls, all in one buffer.
 pub(crate) fn run(out: &mut Printer, script: &mut Script<'_>) -> Result<(), Malformed>
     ensures { OnOk result (Onward script.old script.new) }
@@ -57,7 +80,7 @@ pub(crate) fn run(out: &mut Printer, script: &mut Script<'_>) -> Result<(), Malf
     out.put_bytes(b"case\n");
     for _ in 0..case.calls {
         let call = script.read_call()?;
-        let wrote = serializer.make_call(call, case.style, buf);
+        let wrote = make_call(serializer, call, case.style, buf);
         serializer = wrote.serializer;
         put_call(out, wrote.answer, serializer);
     }

@@ -11,12 +11,14 @@ use Rattle.script.specs.declared.tree.TreeCalls.{TreeCalls}
 abbrev pub TextFrom : List ℕ → List ℕ → ℕ → TextCase → Type 0
 TextFrom script rest most case = Line script (length case.text.now ∷ case.calls ∷ case.last ∷ []) (case.text.now ++ 10 ∷ rest) × (case.last ≤ most)
 
--- ` R B I K`, and the B bytes of a line break, the I bytes of an indentation and a line end; R is 4096 at most
+-- ` R B I K`, and the B bytes of a line break, the I bytes of an indentation and a line end; R is 4096 at most, B and I 1048576
 abbrev pub StyleFrom : List ℕ → List ℕ → WriterCase → Type 0
 StyleFrom script rest case =
     Line script (case.room ∷ length case.style.line_break.now ∷ length case.style.indentation.now ∷ case.calls ∷ [])
     (case.style.line_break.now ++ case.style.indentation.now ++ 10 ∷ rest)
     × (case.room ≤ 4096)
+    × (length case.style.line_break.now ≤ 1048576)
+    × (length case.style.indentation.now ≤ 1048576)
 
 -- `A N T`, and the N bytes of an atom and a line end; `( T`; `) 0`; `F 1` or `F 0`
 abbrev pub CallFrom : List ℕ → List ℕ → Call → Type 0

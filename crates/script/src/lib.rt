@@ -3,7 +3,7 @@
 
 mod tree;
 
-ghost use Rattle.std.specs.Prelude.{◌≡◌, [], ◌∷◌, ◌++◌, length, MatchOption, IfOk, OnOk};
+ghost use Rattle.std.specs.Prelude.{◌≡◌, [], ◌∷◌, ◌++◌, length, MatchOption, MatchResult, IfOk};
 ghost use Rattle.script.specs.Numbers.{number_meant, Number, Field};
 ghost use Rattle.script.specs.Script.{TextFrom, StyleFrom, CallFrom};
 
@@ -16,6 +16,9 @@ const LARGEST: usize = 999999999;
 
 // The most bytes of a case's buffer, and the most words of its table.
 pub const MAX_LEN: usize = 4096;
+
+// The most bytes of a style's line break, and of its indentation.
+const MAX_STYLE: usize = 1048576;
 
 // The next part of the script is not what was to be read.
 #[derive(Clone, Copy, Debug, Drop, PartialEq, Eq)]
@@ -50,10 +53,11 @@ pub fn meant(number: usize) -> u64
     }
 }
 
-// A script that is read from its front. A clause sees the bytes that are left.
-#[derive(Drop)]
+// A script that is read from its front. A clause sees the bytes that are left. They can be read, so that a caller who keeps them can go on from there
+// after a refusal; no `Copy`, since a type with a model and a lifetime cannot have it.
+#[derive(Clone, Drop)]
 pub struct Script<'a> {
-    rest: &'a [u8],
+    pub rest: &'a [u8],
 }
 
 impl<'a> Model for Script<'a> {
@@ -73,20 +77,22 @@ impl<'a> Script<'a> {
 
     // The next byte, which is read with it.
     pub fn next_byte(&mut self) -> Option<u8>
-        ensures { MatchOption result (self.old ≡ []) (λ byte. self.old ≡ byte ∷ self.new) }
+        ensures { MatchOption result ((self.old ≡ []) × (self.new ≡ [])) (λ byte. self.old ≡ byte ∷ self.new) }
     {
         let (first, rest) = self.rest.split_first()?;
         self.rest = rest;
         Some(*first)
     }
 
-    // Reads the byte, which has to come next.
+    // Reads the byte, which has to come next. Another is not read.
     pub fn read_byte(&mut self, byte: u8) -> Result<(), Malformed>
-        ensures { OnOk result (self.old ≡ byte ∷ self.new) }
+        ensures { MatchResult result (λ _. self.old ≡ byte ∷ self.new) (λ _. self.new ≡ self.old) }
     {
+        let before = self.rest;
         if self.next_byte() == Some(byte) {
             Ok(())
         } else {
+            self.rest = before;
             Err(Malformed)
         }
     }
@@ -110,9 +116,9 @@ impl<'a> Script<'a> {
         Ok(text)
     }
 
-    // The number that ends before the byte `end`. One of 1,000,000,000 or more is malformed, so that no sum wraps.
+    // The number that ends before the byte `end`. One of 1,000,000,000 or more is malformed, so that no sum wraps. Of what is malformed nothing is read.
     pub fn read_number(&mut self, end: u8) -> Result<usize, Malformed>
-        ensures { IfOk result (λ n. Number end self.old n self.new) }
+        ensures { MatchResult result (λ n. Number end self.old n self.new) (λ _. self.new ≡ self.old) }
     {
         let mut value = 0;
         for (at, &byte) in self.rest.iter().enumerate() {
@@ -159,7 +165,7 @@ impl<'a> Script<'a> {
         let line_break_len = self.read_number(b' ')?;
         let indentation_len = self.read_number(b' ')?;
         let calls = self.read_number(b'\n')?;
-        if MAX_LEN < room {
+        if MAX_LEN < room || MAX_STYLE < line_break_len || MAX_STYLE < indentation_len {
             return Err(Malformed);
         }
         let line_break = self.read_bytes(line_break_len)?;

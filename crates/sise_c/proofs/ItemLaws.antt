@@ -21,7 +21,7 @@ use Rattle.sise_tree.proofs.ReadSteps.{Took, took}
 use Rattle.sise_serializer.specs.Bytes.{pasted}
 use Rattle.sise_serializer.proofs.Bytes.{pasted_none, pasted_more}
 use Rattle.sise_c.specs.Items.{items_from, ending_by, ending_from, items_of, ending_of, item_words, all_words}
-use Rattle.sise_c.specs.Passes.{calls, items_left, Reached, Counts, Fills, Passes}
+use Rattle.sise_c.specs.Passes.{calls, items_left, Reached, Counts, Fills}
 
 reached_none : (text : List ℕ) {r : Reader} → r ≡ fresh_reader → Reached text r 0
 reached_none text e = record { sound = subst (λ (x : Reader). is_sound (length text) x ≡ true) (sym e) (fresh_sound (length text)); early = omega arith }
@@ -165,22 +165,3 @@ module _ (text w₀ : List ℕ) {r q : Reader} {words : List ℕ} {n : ℕ} (f :
               ∙ ap (λ (l : List ParsedItem). pasted words (4 * n) (all_words l)) (sym (items_more text f.reached e))
               ∙ f.gives;
         }
-
--- ---- both at once
-
-pub passes_none : (text w₀ : List ℕ) {r : Reader} → r ≡ fresh_reader → Passes text w₀ r w₀ 0
-passes_none text w₀ e = record { counts = counts_none text e; same = refl; fills = fills_none text w₀ e }
-
-module _ (text w₀ : List ℕ) {r q : Reader} {words : List ℕ} {n : ℕ} (p : Passes text w₀ r words n) where
-  pub passes_more :
-      {i : ParsedItem} → next_item text r ≡ next q (item i) → {now : List ℕ} → (4 * (n + 1) ≤ length words → now ≡ pasted words (4 * n) (item_words i))
-      → length now ≡ length words → Passes text w₀ q now (n + 1)
-  passes_more e z s =
-      record {
-        counts = counts_more text p.counts e;
-        same = s ∙ p.same;
-        fills = λ h. let f = p.fills h in fills_more text w₀ f e (z (fills_room text w₀ f e)) s;
-      }
-
-  pub passes_filled : {x : Refusal} → next_item text r ≡ next q (refused x) → 4 * length (items_of text) ≤ length w₀ → words ≡ pasted w₀ 0 (all_words (items_of text))
-  passes_filled e h = fills_all text w₀ (p.fills h) e

@@ -32,9 +32,3 @@ pub record Fills (text w₀ : List ℕ) (r : Reader) (words : List ℕ) (n : ℕ
   pub same : length words ≡ length w₀
   pub room : 4 * (n + length (items_left text r n)) ≤ length w₀
   pub gives : pasted words (4 * n) (all_words (items_left text r n)) ≡ pasted w₀ 0 (all_words (items_of text))
-
--- the items are counted, and where there is room for the words of all, those of n items are written
-pub record Passes (text w₀ : List ℕ) (r : Reader) (words : List ℕ) (n : ℕ) : Type 0 where
-  pub counts : Counts text r n
-  pub same : length words ≡ length w₀
-  pub fills : 4 * length (items_of text) ≤ length w₀ → Fills text w₀ r words n

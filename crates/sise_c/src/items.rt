@@ -31,35 +31,54 @@ pub(crate) fn item_words(item: ParsedItem) -> [u64; 4]
     }
 }
 
-// Writes an item's words behind those of so many items, if there is room. The place is worked out from the count: what the library says of chunks_exact_mut,
-// as_chunks_mut and get_mut leaves open what the words are after a chunk is written, and first_chunk_mut wants the part behind the count first.
+// Writes an item's words behind those of so many items. One by one: what was copied from an array would lie in memory first, and be tested for an overlap.
 fn put_item(words: &mut [u64], items: usize, item: ParsedItem)
-    ensures { 4 * (items + 1) ≤ length words.old → words.new ≡ pasted words.old (4 * items) (item_words item) }
+    requires { 4 * (items + 1) ≤ length words.old }
+    ensures { words.new ≡ pasted words.old (4 * items) (item_words item) }
 {
-    if items < words.len() / 4 {
-        let at = 4 * items;
-        words[at..at + 4].copy_from_slice(&item_words(item));
-    }
+    let at = 4 * items;
+    let [kind, place, len, threshold] = item_words(item);
+    words[at] = kind;
+    words[at + 1] = place;
+    words[at + 2] = len;
+    words[at + 3] = threshold;
 }
 
-// Reads the items one after the other and answers how many there are. The words of those that have room are written: to count alone, none is lent. A `loop` and
-// no `for`: the refusal that ends the items is part of the answer, and an iterator ends with None, so that the refusal would have to be kept beside it.
-fn pass_items(text: &[u8], words: &mut [u64]) -> Result<usize, ParseError>
-    ensures counted { MatchResult result (λ n. (n ≡ length (items_of text.now)) × (ending_of text.now ≡ ended)) (λ e. ending_of text.now ≡ not_ended (refusal_of e)) }
-    ensures filled { 4 * length (items_of text.now) ≤ length words.old → words.new ≡ pasted words.old 0 (all_words (items_of text.now)) }
+// How many items the text has, and whether it ends with the last. A `loop` and no `for`: the refusal that ends the items is part of the answer, and an iterator
+// ends with None, so that the refusal would have to be kept beside it.
+fn count_items(text: &[u8]) -> Result<usize, ParseError>
+    ensures { MatchResult result (λ n. (n ≡ length (items_of text.now)) × (ending_of text.now ≡ ended)) (λ e. ending_of text.now ≡ not_ended (refusal_of e)) }
 {
     let mut reader = Reader::new();
     let mut items = 0;
     loop {
         let next = reader.next_item(text);
         match next.answer {
-            Ok(item) => {
-                put_item(words, items, item);
+            Ok(_) => {
                 items += 1;
                 reader = next.reader;
             }
             Err(error) => return ending_by(text, reader, error).and(Ok(items)),
         }
+    }
+}
+
+// Reads the items again, for which there is room, and writes their words. It and count_items are two functions, since each item costs so little that what the
+// other one does with it would show.
+fn fill_items(text: &[u8], words: &mut [u64])
+    requires { 4 * length (items_of text.now) ≤ length words.old }
+    ensures { words.new ≡ pasted words.old 0 (all_words (items_of text.now)) }
+{
+    let mut reader = Reader::new();
+    let mut items = 0;
+    loop {
+        let next = reader.next_item(text);
+        let Ok(item) = next.answer else {
+            return;
+        };
+        put_item(words, items, item);
+        items += 1;
+        reader = next.reader;
     }
 }
 
@@ -70,9 +89,10 @@ pub(crate) fn read_items(text: &[u8], words: &mut [u64]) -> Result<usize, TreeEr
     ensures answer { parsed_as result ≡ (read_items text.now words.old).answer }
     ensures words { words.new ≡ (read_items text.now words.old).words }
 {
-    let items = pass_items(text, &mut [])?;
+    let items = count_items(text)?;
     if items > words.len() / 4 {
         return Err(TreeError::TableFull);
     }
-    Ok(pass_items(text, words)?)
+    fill_items(text, words);
+    Ok(items)
 }

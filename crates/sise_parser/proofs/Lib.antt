@@ -11,3 +11,4 @@ pub mod Readings
 pub mod TokenLaws
 pub mod RefusedLaws
 pub mod Runs
+pub mod Looking

@@ -140,10 +140,13 @@ fn lex_string(text: &[u8], from: usize) -> Result<usize, Wrong>
     }
 }
 
-// Whether `byte` is a blank.
+// Whether `byte` is a blank. Nearly every byte that is none lies above them, and so is told by one test.
 fn is_blank(byte: u8) -> bool
     ensures { result ≡ is_blank (class_of byte) }
 {
+    if byte > b' ' {
+        return false;
+    }
     matches!(byte, b' ' | b'\t' | b'\r' | b'\n')
 }
 
@@ -179,6 +182,14 @@ pub fn atom_run(text: &[u8], start: usize) -> usize
     start.max(text.len())
 }
 
+// The same for get_token behind a comment. It stays a call: made part of the token loop, it would cost each byte of the comment's loop one more count.
+#[inline(never)]
+fn next_run(text: &[u8], start: usize) -> usize
+    ensures { result ≡ atom_run (drop start text.now) start }
+{
+    atom_run(text, start)
+}
+
 // Whether a `"` stands at `at`.
 pub fn is_quote_at(text: &[u8], at: usize) -> bool
     ensures { result ≡ eqb (get_or text.now at 0) 34 }
@@ -193,27 +204,30 @@ fn found(token: Token, start: usize, end: usize) -> Lexeme
     Lexeme { token, start, end }
 }
 
-// The atom that begins at `start`: it runs to the end of the text or to a byte outside strings that is no atom character and no quote.
-// The loop counts places by hand: each turn passes a string and the run behind it.
-fn lex_atom(text: &[u8], start: usize) -> Result<Lexeme, Wrong>
-    requires { start ≤ length text.now }
+// The atom that begins at `start`: it runs to the end of the text or to a byte outside strings that is no atom character and no quote. Its first run of atom
+// characters ends at `run`. The loop counts places by hand: each turn passes a string and the run behind it.
+fn lex_atom(text: &[u8], start: usize, run: usize) -> Result<Lexeme, Wrong>
+    requires inside { start ≤ length text.now }
+    requires run { run ≡ atom_run (drop start text.now) start }
     ensures { lexed_as result ≡ plain (drop start text.now) start start }
 {
-    let mut at = atom_run(text, start);
+    let mut at = run;
     while is_quote_at(text, at) {
         at = atom_run(text, lex_string(text, at + 1)?);
     }
     Ok(found(Token::Atom(at - start), start, at))
 }
 
-// The token at or after `from`: blanks and comments are skipped.
+// The token at or after `from`, where no blank stands and the run of atom characters ends at `run`: comments and the blanks behind them are skipped.
 // Both loops count by hand: document 01 names the form, a token loop with a comment's loop inside that is left by its label.
-pub(crate) fn get_token(text: &[u8], from: usize) -> Result<Lexeme, Wrong>
+pub(crate) fn get_token(text: &[u8], from: usize, run: usize) -> Result<Lexeme, Wrong>
+    requires stop { from < length text.now → is_blank (class_of (get_or text.now from 0)) ≡ false }
+    requires run { run ≡ atom_run (drop from text.now) from }
     ensures { lexed_as result ≡ between (drop from text.now) from }
 {
     let mut at = from;
+    let mut end = run;
     'token: loop {
-        at = skip_blanks(text, at);
         let Some(&byte) = text.get(at) else {
             break 'token Ok(found(Token::Eof, at, at));
         };
@@ -232,9 +246,10 @@ pub(crate) fn get_token(text: &[u8], from: usize) -> Result<Lexeme, Wrong>
                         _ => at += 1,
                     }
                 }
+                at = skip_blanks(text, at);
+                end = next_run(text, at);
             }
-            b'"' => break 'token lex_atom(text, at),
-            _ if is_atom_byte(byte) => break 'token lex_atom(text, at),
+            _ if byte == b'"' || at < end => break 'token lex_atom(text, at, end),
             _ => break 'token Err(wrong_chr(Context::Outside, text, at)),
         }
     }

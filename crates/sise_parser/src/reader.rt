@@ -1,12 +1,15 @@
 // The reader's record and its two calls.
-ghost use Rattle.std.specs.Prelude.{◌≡◌, ◌≤◌, ◌<◌, ◌^◌};
+ghost use Rattle.std.specs.Prelude.{◌≡◌, ◌≤◌, ◌<◌, ◌^◌, true, false, length, drop, get_or};
+ghost use Rattle.sise_util.specs.Classes.{class_of};
+ghost use Rattle.sise_parser.specs.Plain.{is_blank, atom_run};
+ghost use Rattle.sise_parser.specs.PlainItems.{GoesOn};
 ghost use Rattle.sise_parser.specs.Reader.{fresh_reader, lists_fit, is_sound, in_beginning, in_parsing, next_item, finish_reading, part_of, next, reader};
 ghost use Rattle.sise_parser.specs.Phases.{ReadsPhase};
 ghost use Rattle.sise_parser.specs.Meaning.{lexeme_as, answer_as, next_as, finished_as};
 
 use crate::error::ParseError;
-use crate::lexer::{Lexeme, Token, get_token};
-use crate::plain::plain_item;
+use crate::lexer::{Lexeme, Token, atom_run, get_token, skip_blanks};
+use crate::plain::{Seen, look};
 
 // Where the reader is in the text: before the first item, inside the outermost list, or after the last item.
 #[derive(Clone, Copy, Debug, PartialEq, Eq)]
@@ -147,18 +150,31 @@ impl Reader {
         self.position <= len && self.lists <= self.position && lists_fit(self.phase, self.lists)
     }
 
+    // The same record: its fields are copied one by one, and not the unused bytes behind the phase. A copy of the whole reads them too, and waits until all
+    // that was written there a moment before is in memory.
+    #[inline(always)]
+    fn by_fields(self) -> Reader
+        ensures { result ≡ self }
+    {
+        Reader {
+            position: self.position,
+            ..self
+        }
+    }
+
     // The next item of the text. The record that comes back is for the next call, after a refusal too. A plain item is found without the lexer, so that the
-    // call costs little in a loop.
+    // call costs little in a loop; where there is none, the lexer goes on where the look for one ended.
     #[inline(always)]
     pub fn next_item(self, text: &[u8]) -> Next
         ensures { next_as result ≡ next_item text.now self }
     {
-        match plain_item(text, self) {
-            Some(plain) => Next {
+        match look(text, self) {
+            Seen::Plain(plain) => Next {
                 reader: plain.reader,
                 answer: Ok(plain.item),
             },
-            None => self.ahead(text),
+            Seen::Token { start, run } => self.behind(text, start, run),
+            Seen::Outside => self.ahead(text),
         }
     }
 
@@ -170,7 +186,20 @@ impl Reader {
     {
         let next = item_ahead(self.position, self.phase, self.lists, text);
         Next {
-            reader: next.reader,
+            reader: next.reader.by_fields(),
+            answer: next.answer,
+        }
+    }
+
+    // What token_ahead hands back, moved in the same way.
+    #[inline(always)]
+    fn behind(self, text: &[u8], start: usize, run: usize) -> Next
+        requires { GoesOn text.now self start run }
+        ensures { next_as result ≡ next_item text.now self }
+    {
+        let next = token_ahead(text, Phase::Parsing, self.lists, start, run);
+        Next {
+            reader: next.reader.by_fields(),
             answer: next.answer,
         }
     }
@@ -185,7 +214,8 @@ impl Reader {
         if self.phase != Phase::Finishing {
             return Err(ParseError::ParsingNotFinished);
         }
-        let found = get_token(text, self.position)?;
+        let start = skip_blanks(text, self.position);
+        let found = get_token(text, start, atom_run(text, start))?;
         match found.token {
             Token::Eof => Ok(()),
             _ => Err(ParseError::ExpectedEof { pos: found.start }),
@@ -221,7 +251,21 @@ pub fn item_ahead(position: usize, phase: Phase, lists: usize, text: &[u8]) -> N
     if phase == Phase::Finishing {
         return answered(position, phase, lists, Err(ParseError::ParsingFinished));
     }
-    match get_token(text, position) {
+    let start = skip_blanks(text, position);
+    token_ahead(text, phase, lists, start, atom_run(text, start))
+}
+
+// What the token at or after `start` gives before the last item, for a sound record of these parts. No blank stands there, and the run of atom characters ends
+// at `run`.
+#[inline(always)]
+fn token_gives(text: &[u8], phase: Phase, lists: usize, start: usize, run: usize) -> Next
+    requires sound { is_sound (length text.now) (reader start phase lists) ≡ true }
+    requires early { phase ≡ Phase.Finishing → ⊥ }
+    requires stop { start < length text.now → is_blank (class_of (get_or text.now start 0)) ≡ false }
+    requires run { run ≡ atom_run (drop start text.now) start }
+    ensures { next_as result ≡ next_item text.now (reader start phase lists) }
+{
+    match get_token(text, start, run) {
         Err(wrong) => answered(wrong.position, phase, lists, Err(wrong.error)),
         Ok(found) => {
             if phase == Phase::Beginning {
@@ -230,5 +274,21 @@ pub fn item_ahead(position: usize, phase: Phase, lists: usize, text: &[u8]) -> N
                 inner_item(lists, found)
             }
         }
+    }
+}
+
+// The same for a loop over next_item, which seldom comes here. What it hands back is made of the record's fields, as there.
+#[cold]
+fn token_ahead(text: &[u8], phase: Phase, lists: usize, start: usize, run: usize) -> Next
+    requires sound { is_sound (length text.now) (reader start phase lists) ≡ true }
+    requires early { phase ≡ Phase.Finishing → ⊥ }
+    requires stop { start < length text.now → is_blank (class_of (get_or text.now start 0)) ≡ false }
+    requires run { run ≡ atom_run (drop start text.now) start }
+    ensures { next_as result ≡ next_item text.now (reader start phase lists) }
+{
+    let next = token_gives(text, phase, lists, start, run);
+    Next {
+        reader: next.reader.by_fields(),
+        answer: next.answer,
     }
 }

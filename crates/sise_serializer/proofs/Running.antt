@@ -10,6 +10,8 @@ use mathlib.Core.List.{List, [], ◌∷◌, ◌++◌, map}
 use lib.Dec.{leb}
 use lib.ListN.{length, get_or, take, drop, set, length-set}
 use lib.Seq.{take-nil, take-suc-set, drop-set-lt, append_snoc}
+use Rattle.sise_util.proofs.Lists.{drop-next}
+use Rattle.std.proofs.lemmas.List.{get_or-take, get_or-drop}
 use Rattle.sise_serializer.specs.Bytes.{pasted}
 use Rattle.sise_serializer.specs.Serializer.{Style, fresh_serializer, is_sound}
 use Rattle.sise_serializer.specs.declared.calls.Ran.{Ran}
@@ -17,7 +19,7 @@ use Rattle.sise_serializer.specs.declared.serializer.Serializer.{Serializer}
 use Rattle.sise_serializer.proofs.Bytes.{pasted_none}
 use Rattle.sise_serializer.proofs.Kept.{fresh_sound, sound_kept}
 use Rattle.sise_serializer.specs.Calls.{Call, step, Run, run}
-use Rattle.sise_serializer.specs.Words.{call_of, decoded, calls_of, calls_from, answer_word, Runs, RunsFrom}
+use Rattle.sise_serializer.specs.Words.{call_of, call_at, decoded, calls_of, calls_from, answer_word, Runs, RunsFrom}
 
 -- ---- words
 
@@ -29,19 +31,42 @@ decoded_short (a ∷ b ∷ []) atoms h = refl
 decoded_short (a ∷ b ∷ c ∷ []) atoms h = refl
 decoded_short (a ∷ b ∷ c ∷ d ∷ l) atoms h = absurd (omega arith)
 
+-- the words from a place on: the first of them, and the first four
+next : (l : List ℕ) (i j : ℕ) → j ≡ i + 1 → i < length l → drop i l ≡ get_or l i 0 ∷ drop j l
+next l i j e h = rw e (drop-next l i h)
+
+module _ (words atoms : List ℕ) (at : ℕ) where
+  four : at + 4 ≤ length words → drop at words ≡ get_or words at 0 ∷ get_or words (at + 1) 0 ∷ get_or words (at + 2) 0 ∷ get_or words (at + 3) 0 ∷ drop (at + 4) words
+  four room =
+      next words at (at + 1) (omega arith) (omega arith)
+      ∙ ap (λ (l : List ℕ). get_or words at 0 ∷ l) (next words (at + 1) (at + 2) (omega arith) (omega arith)
+      ∙ ap (λ (l : List ℕ). get_or words (at + 1) 0 ∷ l) (next words (at + 2) (at + 3) (omega arith) (omega arith)
+      ∙ ap (λ (l : List ℕ). get_or words (at + 2) 0 ∷ l) (next words (at + 3) (at + 4) (omega arith) (omega arith))))
+
+  -- four words there, by whether the first is a kind
+  pub rest_as : at + 4 ≤ length words → {b : Bool} → leb (get_or words at 0) 4 ≡ b → decoded (drop at words) atoms ≡ cond b (call_at words atoms at ∷ decoded (drop (at + 4) words) atoms) []
+  unfolding decoded
+  rest_as room e =
+      ap (λ (l : List ℕ). decoded l atoms) (four room)
+      ∙ ap (λ (b : Bool). cond b (call_at words atoms at ∷ decoded (drop (at + 4) words) atoms) []) e
+
+  -- the call there is that in front of the words from there on
+  pub call_at_drop : call_at (drop at words) atoms 0 ≡ call_at words atoms at
+  call_at_drop = rw (get_or-drop at words 0 0, get_or-drop at words 1 0, get_or-drop at words 2 0, get_or-drop at words 3 0, add-zero at) refl
+
+-- the call in front is that of the first four words
+pub call_at_take : (words atoms : List ℕ) → call_at (take 4 words) atoms 0 ≡ call_at words atoms 0
+call_at_take words atoms = rw (get_or-take 4 words 0 0 (omega arith), get_or-take 4 words 1 0 (omega arith), get_or-take 4 words 2 0 (omega arith), get_or-take 4 words 3 0 (omega arith)) refl
+
 -- four words in front
 pub decoded_four : (words p q atoms : List ℕ) → (p ≡ take 4 words) × (q ≡ drop 4 words) × (length q + 4 ≡ length words)
     → decoded words atoms ≡ cond (leb (get_or p 0 0) 4) (call_of atoms (get_or p 0 0) (get_or p 1 0) (get_or p 2 0) (get_or p 3 0) ∷ decoded q atoms) []
-unfolding decoded
-decoded_four words p q atoms h = four words (omega (arith, h.2)) ∙ rw (h.0, h.1) refl
-  where
-    four : (l : List ℕ) → 4 ≤ length l
-        → decoded l atoms ≡ cond (leb (get_or (take 4 l) 0 0) 4) (call_of atoms (get_or (take 4 l) 0 0) (get_or (take 4 l) 1 0) (get_or (take 4 l) 2 0) (get_or (take 4 l) 3 0) ∷ decoded (drop 4 l) atoms) []
-    four [] h = absurd (omega arith)
-    four (a ∷ []) h = absurd (omega arith)
-    four (a ∷ b ∷ []) h = absurd (omega arith)
-    four (a ∷ b ∷ c ∷ []) h = absurd (omega arith)
-    four (a ∷ b ∷ c ∷ d ∷ l) h = refl
+decoded_four words p q atoms h =
+    let kind : get_or words 0 0 ≡ get_or p 0 0 = rw h.0 (sym (get_or-take 4 words 0 0 (omega arith))) in
+    let call : call_at words atoms 0 ≡ call_at p atoms 0 = rw h.0 (sym (call_at_take words atoms)) in
+    rest_as words atoms 0 (omega (arith, h.2)) (ap (λ (n : ℕ). leb n 4) kind)
+    ∙ ap (λ (c : Call). cond (leb (get_or p 0 0) 4) (c ∷ decoded (drop 4 words) atoms) []) call
+    ∙ ap (λ (l : List ℕ). cond (leb (get_or p 0 0) 4) (call_at p atoms 0 ∷ decoded l atoms) []) (sym h.1)
 
 -- ---- answers
 

@@ -44,9 +44,9 @@ decoded (kind ∷ place ∷ []) atoms = []
 decoded (kind ∷ []) atoms = []
 decoded [] atoms = []
 
--- r is the first of them, and the words behind its four
+-- r is the first of them, which is the call whose four words stand in front, and the words behind those
 abbrev pub ReadsCall : List ℕ → List ℕ → Option (code.Call × Bor (List ℕ)) → Type 0
-ReadsCall words atoms r = MatchOption r (decoded words atoms ≡ []) (λ p. (decoded words atoms ≡ call_as p.0 ∷ decoded p.1.now atoms) × (p.1.now ≡ drop 4 words))
+ReadsCall words atoms r = MatchOption r (decoded words atoms ≡ []) (λ p. (decoded words atoms ≡ call_as p.0 ∷ decoded p.1.now atoms) × (p.1.now ≡ drop 4 words) × (call_as p.0 ≡ call_at words atoms 0))
 
 -- as many of them as there is room for answers
 abbrev pub calls_of : List ℕ → List ℕ → ℕ → List Call

@@ -1,5 +1,5 @@
 // Bytes into a lent buffer: where a token goes, and layout and a token written there.
-ghost use Rattle.std.specs.Prelude.{◌≡◌, [], ◌∷◌, ◌+◌, ◌*◌, ◌≤◌, leb, length, IfSome};
+ghost use Rattle.std.specs.Prelude.{◌≡◌, [], ◌∷◌, ◌+◌, ◌*◌, ◌<◌, ◌≤◌, leb, length, IfSome};
 ghost use Rattle.sise_serializer.specs.Bytes.{pasted, pasted_if, repeat};
 ghost use Rattle.sise_serializer.specs.Plan.{layout_bytes};
 ghost use Rattle.sise_serializer.specs.Parts.{spot_of, gap_bytes, break_bytes};
@@ -95,18 +95,21 @@ pub(crate) fn copy(buf: &mut [u8], at: usize, src: &[u8])
 
 // The byte that `src` repeats, if it is one byte once or more often, as most indentations are.
 fn uniform_byte(src: &[u8]) -> Option<u8>
-    ensures { IfSome result (λ byte. src.now ≡ repeat (length src.now) (byte ∷ [])) }
+    ensures { IfSome result (λ byte. (0 < length src.now) × (src.now ≡ repeat (length src.now) (byte ∷ []))) }
 {
     let first = *src.first()?;
     src.iter().all(|&byte| byte == first).then_some(first)
 }
 
-// Copies `src` as many as `times` times, each behind the last. By chunks_exact_mut it is no plainer: chunks of no byte are not allowed, so that an empty `src`
-// needs a test of its own.
+// Copies `src` as many as `times` times, each behind the last, and does not look at it if that is none. By chunks_exact_mut it is no plainer: chunks of no
+// byte are not allowed, so that an empty `src` needs a test of its own.
 fn copies(buf: &mut [u8], at: usize, times: usize, src: &[u8])
     requires { at + times * length src.now ≤ length buf.old }
     ensures { buf.new ≡ pasted buf.old at (repeat times src.now) }
 {
+    if times == 0 {
+        return;
+    }
     let end = at + times * src.len();
     if let Some(byte) = uniform_byte(src) {
         buf[at..end].fill(byte);

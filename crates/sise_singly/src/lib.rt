@@ -4,11 +4,12 @@
 
 ghost use Rattle.std.specs.Prelude.{◌≡◌};
 ghost use Rattle.sise_serializer.specs.Serializer.{style, style_of};
-ghost use Rattle.sise_serializer.specs.Words.{Runs, WritesCalls};
+ghost use Rattle.sise_serializer.specs.Calls.{Does};
+ghost use Rattle.sise_serializer.specs.Words.{call_as, Runs, WritesCalls};
 ghost use Rattle.sise_singly.specs.Count.{count_items};
 
 use sise_parser::Reader;
-use sise_serializer::{Ran, Serializer, SerializerStyle, next_call, put_word};
+use sise_serializer::{Call, Ran, Serializer, SerializerStyle, Wrote, next_call, put_word};
 
 // How many items a reader of the text gives before its first refusal; a whole text is refused with 9 after its last item. The `for` counts the items and
 // bounds the calls, where a `loop` would count by hand. A text has no more items than bytes, so that the last line only ends the function.
@@ -27,9 +28,24 @@ pub extern "C" fn sise_count_items(text: &[u8]) -> u64
     text.len() as u64 + 1
 }
 
-// Does what write_calls of sise_serializer does, with each call made by make_call, which tests the record, as a program does that makes the calls one at a
-// time. So the loop is that of write_calls_from with another call in it. A loop for both would be a public function over a closure, and would have to require
-// of the closure that it makes each call as the definition says: no public function here requires anything.
+// Makes a call by its method, as a program does that makes the calls one at a time.
+fn call_method(w: Serializer, call: Call<'_>, style: SerializerStyle<'_>, buf: &mut [u8]) -> Wrote
+    ensures { Does (call_as call.entry) (style_of style.entry) w buf.old result buf.new }
+{
+    match call {
+        Call::PutAtom {
+            atom,
+            break_line_at,
+        } => w.put_atom(style, buf, atom, break_line_at),
+        Call::BeginList { break_line_at } => w.begin_list(style, buf, break_line_at),
+        Call::EndList => w.end_list(style, buf),
+        Call::Finish { insert_line_break } => w.finish(style, buf, insert_line_break),
+    }
+}
+
+// Does what write_calls of sise_serializer does, with each call made by its method, which tests the record. So the loop is that of write_calls_from with
+// another call in it. A loop for both would be a public function over a closure, and would have to require of the closure that it makes each call as the
+// definition says: no public function here requires anything.
 // `rest` is cut as there.
 fn run_calls(
     words: &[u64],
@@ -49,7 +65,7 @@ fn run_calls(
                 calls: k,
             };
         };
-        let wrote = w.make_call(call, style, buf);
+        let wrote = call_method(w, call, style, buf);
         *answer = put_word(wrote.answer);
         w = wrote.serializer;
         rest = behind;

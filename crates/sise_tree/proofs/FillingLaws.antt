@@ -3,15 +3,15 @@
 use Prim.Native.Nat.{ℕ, ◌+◌, ◌*◌, ◌≤◌}
 use native.Mathlib.Nat.{add-zero}
 use native.Mathlib.Omega.{arith}
-use mathlib.Core.Path.{◌≡◌, refl, sym}
+use mathlib.Core.Path.{◌≡◌, refl, sym, ap, ◌∙◌}
 use mathlib.Core.List.{List, ◌∷◌, ◌++◌, append_assoc, append-nil}
-use lib.ListN.{length, get_or, drop, set, length-append}
-use lib.Seq.{take_at, drop-append-add}
-use Rattle.sise_tree.specs.Tree.{Node, list, Nodes, empty, ◌then◌, size, sizes, children, table_at, tables}
+use lib.ListN.{length, get_or, take, drop, set, length-append, take-append-drop}
+use lib.Seq.{take_at, drop-append-add, set_at, length-take-le}
+use Rattle.sise_tree.specs.Tree.{Node, list, Nodes, empty, ◌then◌, size, sizes, children, table_at, tables, kind, first, second, span}
 use Rattle.sise_tree.specs.ParseTree.{Frames, top, ◌▹◌, snoc, attach}
 use Rattle.sise_tree.specs.Filling.{filled, innermost, distance, render, filled_in, innermost_in, put_at}
 use Rattle.sise_tree.proofs.TreeLaws.{length-tables, size_pos}
-use Rattle.sise_tree.proofs.Rows.{set_past, get_d_past}
+use Rattle.sise_tree.proofs.Rows.{four, set_past, get_d_past}
 
 pub children_le : (c : Nodes) → children c ≤ sizes c
 unfolding children sizes
@@ -92,3 +92,25 @@ unfolding put_at
 put_set f k a b s rest =
     let z : 4 * (filled f + 1) ≡ length (render f) + 4 = omega (arith, length-render f) in
     rw (z, drop-append-add (render f) rest 4, take_at (render f) rest (4 * filled f) (length-render f))
+
+pub put_four :
+    (words : List ℕ) (i k a b s : ℕ) → 4 * (i + 1) ≤ length words
+    → set (set (set (set words (4 * i) k) (4 * i + 1) a) (4 * i + 2) b) (4 * i + 3) s ≡ put_at words i k a b s
+unfolding put_at
+put_four words i k a b s h =
+    ap (λ (l : List ℕ). set (set (set (set l (4 * i) k) (4 * i + 1) a) (4 * i + 2) b) (4 * i + 3) s) whole
+    ∙ go (take (4 * i) words) (kind words i) (first words i) (second words i) (span words i) (drop (4 * (i + 1)) words) (length-take-le (4 * i) words (omega arith))
+  where
+    whole : words ≡ take (4 * i) words ++ (kind words i ∷ first words i ∷ second words i ∷ span words i ∷ drop (4 * (i + 1)) words)
+    whole = sym (take-append-drop (4 * i) words) ∙ ap (λ (l : List ℕ). take (4 * i) words ++ l) (four words i h)
+
+    go :
+        (p : List ℕ) (w x y z : ℕ) (q : List ℕ) → length p ≡ 4 * i
+        → set (set (set (set (p ++ (w ∷ x ∷ y ∷ z ∷ q)) (4 * i) k) (4 * i + 1) a) (4 * i + 2) b) (4 * i + 3) s ≡ p ++ (k ∷ a ∷ b ∷ s ∷ q)
+    go p w x y z q e =
+        rw (
+          set_at p w (x ∷ y ∷ z ∷ q) k (4 * i) e,
+          set_past p (k ∷ x ∷ y ∷ z ∷ q) 1 a e,
+          set_past p (k ∷ a ∷ y ∷ z ∷ q) 2 b e,
+          set_past p (k ∷ a ∷ b ∷ z ∷ q) 3 s e,
+        )

@@ -24,13 +24,13 @@ use Rattle.sise_tree.proofs.DecisionLaws.{decide_sound}
 use Rattle.sise_tree.proofs.LocalLaws.{stands, skip, node_local, held, sound_decides}
 use Rattle.sise_tree.proofs.FindLaws.{read_inside, passing_one, follow_none, follow_child}
 
-no_child : (c : Nodes) (i k : ℕ) (path : List ℕ) → children c ≤ k → child_at c i k path ≡ none
+pub no_child : (c : Nodes) (i k : ℕ) (path : List ℕ) → children c ≤ k → child_at c i k path ≡ none
 unfolding child_at children
 no_child empty i k path h = refl
 no_child (n then c) i zero path h = absurd (omega arith)
 no_child (n then c) i (suc k) path h = no_child c (i + size n) k path (omega arith)
 
-node_here : (n : Node) (i : ℕ) → node_at n i [] ≡ some i
+pub node_here : (n : Node) (i : ℕ) → node_at n i [] ≡ some i
 unfolding node_at
 node_here (atom w p m) i = refl
 node_here (list c) i = refl

@@ -1,26 +1,26 @@
 -- What a node says of what a table holds, by the tests of the code; and the whole by its nodes.
 -- Assumes nothing.
 use Rattle.std.specs.Prelude.{is_some, Ok, Err}
-use Prim.Native.Nat.{ℕ, ◌+◌, ◌*◌, ◌/◌, ◌≤◌, ◌<◌}
-use native.Mathlib.Nat.{add-zero}
+use Prim.Native.Nat.{ℕ, ◌+◌, ◌-◌, ◌*◌, ◌/◌, ◌≤◌, ◌<◌}
 use native.Mathlib.Omega.{arith}
 use mathlib.Core.Path.{◌≡◌, refl, sym, ap, ◌∙◌}
 use mathlib.Core.Bool.{Bool, true, false, cond, false≢true}
 use mathlib.Core.Option.{Option as Maybe, none, some}
 use mathlib.Core.List.{List}
 use lib.Dec.{ltb}
-use lib.ListN.{length, drop}
+use lib.ListN.{length, take, drop, length-drop}
+use lib.Seq.{take_all}
 use borrow.Author.Tests.{le-leb, lt-leb, eq-eqb, ne_eqb, ltb-true, ltb-false}
 use Rattle.sise_util.specs.Atom.{kind_prefix}
 use Rattle.sise_util.proofs.Ranges.{split}
 use Rattle.sise_util.proofs.KindLaws.{kind_prefix_lem}
 use Rattle.sise_tree.specs.Tree.{Node, atoms_hold, kind, first, second, span, fits_kind, sits, fills_in, good, HoldsTree}
-use Rattle.sise_tree.specs.Parts.{atom_holds_at}
+use Rattle.sise_tree.specs.Parts.{good_in, atom_holds_at}
 use Rattle.sise_tree.specs.Decision.{decide, is_some as decided}
 use Rattle.sise_tree.specs.Held.{Held, held_if, held_as, is_tree}
 use Rattle.sise_tree.specs.declared.tree.TableError.TheVariants.{NotATree, NoAtom}
-use Rattle.sise_tree.proofs.LocalSteps.{good_list, good_atom, good_long}
-use Rattle.sise_tree.proofs.Shifts.{fills_in_lem}
+use Rattle.sise_tree.proofs.LocalSteps.{good_outside, good_within, good_list, good_atom, good_long}
+use Rattle.sise_tree.proofs.Shifts.{good_at, atom_at_lem}
 use Rattle.sise_tree.proofs.LocalLaws as local
 use Rattle.sise_tree.proofs.AtomsHold.{tree_all, tree_fails}
 
@@ -28,34 +28,46 @@ use Rattle.sise_tree.proofs.AtomsHold.{tree_all, tree_fails}
 other_reason : {A : Type 0} → ◌≡◌ {A = Held} (Err NoAtom) (Err NotATree) → A
 other_reason e = let x : ◌≡◌ {A = ℕ} 0 1 = cc in absurd (omega arith)
 
--- ---- a node
+-- ---- the first node
 
-module _ (text words : List ℕ) (i : ℕ) where
+module _ (text words : List ℕ) where
   abbrev here : Held
-  here = held_if (good text words i) (atom_holds_at text words i)
+  here = held_if (good_in text words 0) (atom_holds_at text words 0)
 
-  -- its children fill its span, in the part of the table from it on
-  pub held_list : {b : Bool} → i < length words / 4 → kind words i ≡ 0 → b ≡ fills_in (drop (4 * i) words) 0 (first words i) 1 (span words i) → held_if b true ≡ here
-  unfolding atom_holds_at
-  held_list {b} within k e =
-      let its : b ≡ good text words i = e ∙ fills_in_lem words i within 0 (first words i) 1 (span words i) ∙ rw (add-zero i) (sym (good_list text words i k)) in
-      rw (its, eq-eqb (kind words i) 0 k) refl
+  pub held_short : length words / 4 ≤ 0 → Err NotATree ≡ here
+  held_short h = rw (good_outside text words 0 h)
 
-  module _ (k : kind words i ≡ 0 → ⊥) where
-    pub held_long : (span words i ≡ 1 → ⊥) → Err NotATree ≡ here
-    held_long f = rw (good_long text words i k f)
+  module _ (within : 0 < length words / 4) where
+    pub held_list : {b : Bool} → kind words 0 ≡ 0 → b ≡ fills_in words 0 (first words 0) 1 (span words 0) → held_if b true ≡ here
+    unfolding atom_holds_at
+    held_list {b} k e =
+        let end : 0 + span words 0 ≡ span words 0 = omega arith in
+        let its : b ≡ good text words 0 = e ∙ sym (rw end at (good_list text words 0 k)) in
+        rw (good_within text words 0 within, its, eq-eqb (kind words 0) 0 k) refl
 
-    module _ (one : span words i ≡ 1) where
-      pub held_past : length text < first words i + second words i → Err NotATree ≡ here
-      unfolding sits
-      held_past h = rw (good_atom text words i k one, lt-leb (first words i + second words i) (length text) h)
+    module _ (k : kind words 0 ≡ 0 → ⊥) where
+      pub held_long : (span words 0 ≡ 1 → ⊥) → Err NotATree ≡ here
+      held_long f = rw (good_within text words 0 within, good_long text words 0 k f)
 
-      pub held_atom :
-          first words i + second words i ≤ length text
-          → held_if (fits_kind (kind_prefix (drop (first words i) text) (second words i)) (kind words i)) (is_some (kind_prefix (drop (first words i) text) (second words i))) ≡ here
-      unfolding sits atom_holds_at
-      held_atom h =
-          rw (good_atom text words i k one, le-leb (first words i + second words i) (length text) h, ne_eqb (kind words i) 0 k, kind_prefix_lem (drop (first words i) text) (second words i))
+      module _ (one : span words 0 ≡ 1) where
+        pub held_past : length text < first words 0 + second words 0 → Err NotATree ≡ here
+        unfolding sits
+        held_past h = rw (good_within text words 0 within, good_atom text words 0 k one, lt-leb (first words 0 + second words 0) (length text) h)
+
+        pub held_atom :
+            first words 0 + second words 0 ≤ length text
+            → held_if (fits_kind (kind_prefix (drop (first words 0) text) (second words 0)) (kind words 0)) (is_some (kind_prefix (drop (first words 0) text) (second words 0))) ≡ here
+        unfolding sits atom_holds_at
+        held_atom h =
+            rw (good_within text words 0 within, good_atom text words 0 k one, le-leb (first words 0 + second words 0) (length text) h, ne_eqb (kind words 0) 0 k, kind_prefix_lem (drop (first words 0) text) (second words 0))
+
+-- "A subtree is the part of the table from its node": what is said of the first node there, is said of node i
+pub held_part :
+    (text words : List ℕ) (i : ℕ) {h : Held} → i < length words / 4
+    → h ≡ held_if (good_in text (take (length words - 4 * i) (drop (4 * i) words)) 0) (atom_holds_at text (take (length words - 4 * i) (drop (4 * i) words)) 0)
+    → h ≡ held_if (good text words i) (atom_holds_at text words i)
+held_part text words i within e =
+    rw (take_all (length words - 4 * i) (drop (4 * i) words) (omega (arith, length-drop (4 * i) words)), good_at words i within text, atom_at_lem words i within text) at e
 
 -- ---- the whole
 

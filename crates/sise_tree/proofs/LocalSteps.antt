@@ -9,6 +9,7 @@ use lib.Dec.{eqb}
 use lib.ListN.{length}
 use borrow.Author.Tests.{lt-ltb, le-ltb, le-leb, lt-leb, ne_eqb}
 use Rattle.sise_tree.specs.Tree.{kind, first, second, span, sits, linked, fills, fills_in, good}
+use Rattle.sise_tree.specs.Parts.{good_in}
 
 pub fills_outside : (words : List ℕ) (p c i e : ℕ) → length words / 4 < e → fills_in words p c i e ≡ false
 unfolding fills_in
@@ -57,6 +58,14 @@ linked_none words p i h = rw (ne_eqb (kind words i) 0 h, linked)
 pub linked_first : (words : List ℕ) (i : ℕ) → cond (eqb (kind words i) 0) (eqb (second words i) i) true ≡ linked words 0 i
 unfolding linked
 linked_first words i = let away : i - 0 ≡ i = omega arith in rw away refl
+
+pub good_outside : (l words : List ℕ) (i : ℕ) → length words / 4 ≤ i → good_in l words i ≡ false
+unfolding good_in
+good_outside l words i h = rw (le-ltb i (length words / 4) h)
+
+pub good_within : (l words : List ℕ) (i : ℕ) → i < length words / 4 → good_in l words i ≡ good l words i
+unfolding good_in
+good_within l words i within = rw (lt-ltb i (length words / 4) within)
 
 module _ (l words : List ℕ) (i : ℕ) where
   pub good_list : kind words i ≡ 0 → good l words i ≡ fills_in words i (first words i) (i + 1) (i + span words i)

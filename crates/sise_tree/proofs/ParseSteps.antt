@@ -5,7 +5,10 @@ use native.Mathlib.Omega.{arith}
 use mathlib.Core.Path.{◌≡◌, refl, sym, ap, ◌∙◌}
 use mathlib.Core.Bool.{Bool, true, false, false≢true}
 use mathlib.Core.List.{List}
-use Rattle.sise_parser.specs.Reader.{item, next, next_item}
+use lib.ListN.{length}
+use Rattle.sise_parser.specs.Reader.{reader, item, Next, next, next_item}
+use Rattle.sise_parser.specs.declared.reader.Phase.{Phase}
+use Rattle.sise_parser.specs.declared.reader.Phase.TheVariants.{Parsing}
 use Rattle.sise_parser.specs.declared.reader.Reader.{Reader}
 use Rattle.sise_parser.specs.declared.reader.ParsedItem.{ParsedItem}
 use Rattle.sise_parser.specs.declared.reader.ParsedItem.TheVariants.{Atom, ListStart, ListEnd}
@@ -13,7 +16,7 @@ use Rattle.sise_tree.specs.Tree.{Node, list}
 use Rattle.sise_tree.specs.Tree as tree
 use Rattle.sise_tree.specs.ParseTree.{Frames, top, ◌▹◌, Stage, inside, whole, closes, attach, close, turn, read_stage, read_node}
 use Rattle.sise_tree.specs.Filling.{opened, Stands}
-use Rattle.sise_tree.proofs.ReadSteps.{Took, took, read_on, read_item}
+use Rattle.sise_tree.proofs.ReadSteps.{sound_parsing, Took, took, read_on, read_item}
 
 -- what an item makes of the number of open lists, the reader's and the node's
 abbrev pub Opens : ParsedItem → ℕ → ℕ → Type 0
@@ -70,6 +73,13 @@ module _ (text : List ℕ) (r₀ : Reader) where
   pub stands_none : Stands text r₀ top r₀ 0
   unfolding read_node opened
   stands_none = record { reads = refl; deep = refl; listed = omega arith; sound = λ d. absurd (d refl) }
+
+  -- inside the node the reader is parsing, so that an item of the record with that phase is the next one
+  pub inside_item :
+      {f : Frames} {r : Reader} {depth : ℕ} → Stands text r₀ f r depth → (depth ≡ 0 → ⊥) → {x : Next} → next_item text (reader r.position Parsing r.lists) ≡ x → next_item text r ≡ x
+  inside_item {r = r} h some e =
+      let p = sound_parsing (length text) r (h.sound some) (omega (arith, h.listed, some)) in
+      ap (λ (f : Phase). next_item text (reader r.position f r.lists)) p ∙ e
 
   module _ {f : Frames} {r : Reader} {depth : ℕ} (h : Stands text r₀ f r depth) {q : Reader} {i : ParsedItem} (e : next_item text r ≡ next q (item i)) where
     pub turned : {s : Stage} → turn text f i ≡ s → read_stage (read_on text q) q s ≡ read_node text r₀

@@ -33,6 +33,18 @@ begins Beginning = true
 begins Parsing = false
 begins Finishing = false
 
+-- a sound record with a list open is parsing
+pub sound_parsing : (n : ℕ) (r : Reader) → is_sound n r ≡ true → 0 < r.lists → r.phase ≡ Parsing
+sound_parsing n r h o = go r.phase refl
+  where
+    fit : {f : Phase} → r.phase ≡ f → lists_fit f r.lists ≡ true
+    fit p = ap (λ (f : Phase). lists_fit f r.lists) (sym p) ∙ (sound_parts n r h).fit
+
+    go : (f : Phase) → r.phase ≡ f → r.phase ≡ Parsing
+    go Beginning p = absurd (omega (arith, eqb-true r.lists 0 (fit p)))
+    go Parsing p = p
+    go Finishing p = absurd (omega (arith, eqb-true r.lists 0 (fit p)))
+
 -- what an item says of the record q that comes with it, where k lists were open
 abbrev Leaves : ℕ → Reader → Answer → Type 0
 Leaves k q (item (Atom p n)) = (p + n ≡ q.position) × (q.lists ≡ k) × (begins q.phase ≡ false)

@@ -1,6 +1,7 @@
 -- What the private functions of parse_tree do: the node that is due is counted, and then filled into the table, item after item.
 -- Assumes nothing.
-use Rattle.std.specs.Prelude.{ℕ, suc, ◌+◌, ◌*◌, ◌/◌, ◌^◌, ◌≤◌, ◌<◌, ◌≡◌, true, Result, List, [], ◌∷◌, ◌++◌, length, take, drop}
+use Rattle.std.specs.Prelude.{ℕ, suc, ◌+◌, ◌*◌, ◌/◌, ◌^◌, ◌≤◌, ◌<◌, ◌≡◌, true, Option, Some, None, Result, List, [], ◌∷◌, ◌++◌, length, take, drop}
+use Rattle.sise_parser.specs.Refusals.{Refusal}
 use Rattle.sise_parser.specs.Reader as reader
 use Rattle.sise_parser.specs.declared.reader.Reader.{Reader}
 use Rattle.sise_parser.specs.declared.reader.ParsedItem.{ParsedItem}
@@ -10,6 +11,7 @@ use Rattle.sise_tree.specs.Answers.{Answer, answered, refused, parsed_as}
 use Rattle.sise_tree.specs.ParseTree.{longest, Frames, top, ◌▹◌, Stage, inside, whole, closes, attach, turn, ReadNode, got, stopped, read_from, read_node, filled_with}
 use Rattle.sise_tree.specs.declared.parse.TreeError.{TreeError}
 use Rattle.sise_tree.specs.declared.parse.Mark.{Mark}
+use Rattle.sise_tree.specs.declared.parse.Due.{Due}
 
 -- ---- counting
 
@@ -140,6 +142,24 @@ CanTurn text words m i = (w₀ : List ℕ) × (f : Frames) × Shows w₀ (inside
 
 abbrev pub Turns : List ℕ → List ℕ → Mark → ParsedItem → Mark → List ℕ → Type 0
 Turns text words m i r now = (w₀ : List ℕ) (f : Frames) → Shows w₀ (inside f) words m → Fits text (length words) f i → Shows w₀ (turn text f i) now r
+
+-- a node's first word, if the item is an atom
+abbrev pub IsKind : List ℕ → ParsedItem → ℕ → Type 0
+IsKind text (Atom p n) k = k ≡ kind_at text p n
+IsKind text (ListStart p) k = Unit {0}
+IsKind text (ListEnd p) k = Unit {0}
+
+-- what a call of next_item with the record r gives, and an atom's kind; nothing, where it refuses
+abbrev pub GivesDue : List ℕ → Reader → Option Due → Type 0
+GivesDue text r None = (q : Reader) × (x : Refusal) × (reader.next_item text r ≡ reader.next q (reader.Answer.refused x))
+GivesDue text r (Some d) = (reader.next_item text r ≡ reader.next d.reader (reader.Answer.item d.item)) × IsKind text d.item d.kind
+
+-- an item's turn over a text where an atom's kind has that number
+abbrev pub CanWrite : List ℕ → Mark → ParsedItem → ℕ → Type 0
+CanWrite words m i k = (text : List ℕ) × IsKind text i k × CanTurn text words m i
+
+abbrev pub Writes : List ℕ → Mark → ParsedItem → ℕ → Mark → List ℕ → Type 0
+Writes words m i k r now = (text : List ℕ) → IsKind text i k → Turns text words m i r now
 
 -- an atom's turn over a text where its kind has that number
 abbrev pub CanPut : List ℕ → Mark → ℕ → ℕ → ℕ → Type 0

@@ -5,10 +5,12 @@ ghost use Rattle.sise_tree.specs.Answers.{tree_refusal};
 ghost use Rattle.sise_tree.specs.declared.parse.TreeError.TheVariants.{Refused};
 ghost use Rattle.sise_tree.specs.ParseTree.{read_node, parse_tree, DoesParse};
 ghost use Rattle.sise_tree.specs.Filling.{DoesCount, put_at, CanAttach, Attaches, CanClose, Closes, CanPut, Puts};
-ghost use Rattle.sise_tree.specs.Filling.{CanTurn, Turns, CanStart, Starts, CanFill, DoesFill};
+ghost use Rattle.sise_tree.specs.Filling.{GivesDue, CanWrite, Writes, CanStart, Starts, CanFill, DoesFill};
 
 use crate::tree::{LONGEST, NodeWords, wide, words_of};
-use sise_parser::{ParseError, ParsedItem, Reader, Refusal, RefusalNumbers};
+use sise_parser::{
+    ParseError, ParsedItem, Phase, Reader, Refusal, RefusalNumbers, item_ahead, plain_item,
+};
 use sise_util::{check_atom_prefix, kind_number};
 
 // Why no tree is read.
@@ -53,41 +55,49 @@ pub struct TreeRead {
 
 // Reads the node that is due and counts its nodes. The record is left behind the node, or behind what is refused. Items are asked for until one ends the node:
 // an iterator of them would give each as a Result and keep the record, which is wanted behind the loop: a struct, an impl and its three ghost parts for the
-// two lines that begin this loop and that of fill_nodes. No plainer.
+// two lines that begin this loop and that of fill_nodes. No plainer. The first item stands before the loop: inside the node a list is open, and so the reader
+// is parsing, which the loop need not ask at each turn. The node ends where as many lists are open as before it.
 pub(crate) fn count_nodes(text: &[u8], reader: &mut Reader) -> Result<usize, TreeError>
     ensures { DoesCount (read_node text.now reader.old) reader.new result }
 {
-    let mut depth: usize = 0;
-    let mut nodes: usize = 0;
+    let lists = reader.lists;
+    let first = reader.next_item(text);
+    *reader = first.reader;
+    match first.answer? {
+        ParsedItem::Atom { .. } => return Ok(1),
+        ParsedItem::ListStart { .. } => {}
+        ParsedItem::ListEnd { pos } => return Err(TreeError::UnexpectedListEnd { pos }),
+    }
+    let mut nodes: usize = 1;
     loop {
-        let next = reader.next_item(text);
+        let inside = Reader {
+            phase: Phase::Parsing,
+            ..*reader
+        };
+        let next = inside.next_item(text);
         *reader = next.reader;
         match next.answer? {
             ParsedItem::Atom { .. } => nodes += 1,
-            ParsedItem::ListStart { .. } => {
-                nodes += 1;
-                depth += 1;
-            }
-            ParsedItem::ListEnd { pos } => {
-                if depth == 0 {
-                    return Err(TreeError::UnexpectedListEnd { pos });
+            ParsedItem::ListStart { .. } => nodes += 1,
+            ParsedItem::ListEnd { .. } => {
+                if reader.lists == lists {
+                    return Ok(nodes);
                 }
-                depth -= 1;
             }
-        }
-        if depth == 0 {
-            return Ok(nodes);
         }
     }
 }
 
-// The words of node `i`, for which the caller knows that there is room, become these, by one copy, as put_at puts them in.
+// The words of node `i`, for which the caller knows that there is room, become these. Word by word: a copy of all four asks at each node whether the four and
+// the table share their memory.
 fn put(table: &mut [u32], i: usize, node: NodeWords)
     requires { i < length table.old / 4 }
     ensures { table.new ≡ put_at table.old i node.kind node.first node.second node.span }
 {
-    let words = [node.kind, node.first, node.second, node.span];
-    table[4 * i..4 * i + 4].copy_from_slice(&words);
+    table[4 * i] = node.kind;
+    table[4 * i + 1] = node.first;
+    table[4 * i + 2] = node.second;
+    table[4 * i + 3] = node.span;
 }
 
 // The first word of the atom at `pos`, of `len` bytes.
@@ -96,6 +106,50 @@ fn kind_at(text: &[u8], pos: usize, len: usize) -> u32
     ensures { result ≡ kind_at text.now pos len }
 {
     kind_number(check_atom_prefix(&text[pos..], len))
+}
+
+// An item that next_item gives, the record behind it, and the first word that its node gets: an atom's kind, and 0 of a list.
+#[derive(Clone, Copy)]
+struct Due {
+    reader: Reader,
+    item: ParsedItem,
+    kind: u32,
+}
+
+// What item_ahead gives of it: a function of its own, as the record's `ahead` is, so that the memory which item_ahead writes is cleared here, and not at each turn
+// of the loop.
+#[inline(always)]
+fn ahead_item(text: &[u8], reader: Reader) -> Option<Due>
+    ensures { GivesDue text.now reader result }
+{
+    let next = item_ahead(reader.position, reader.phase, reader.lists, text);
+    let Ok(item) = next.answer else {
+        return None;
+    };
+    let kind = match item {
+        ParsedItem::Atom { pos, len } => kind_at(text, pos, len),
+        _ => 0,
+    };
+    Some(Due {
+        reader: next.reader,
+        item,
+        kind,
+    })
+}
+
+// The item that next_item gives, if it gives one. A run of atom characters is plain, and is not looked at again; the bytes of another atom are.
+#[inline(always)]
+fn due_item(text: &[u8], reader: Reader) -> Option<Due>
+    ensures { GivesDue text.now reader result }
+{
+    match plain_item(text, reader) {
+        Some(plain) => Some(Due {
+            reader: plain.reader,
+            item: plain.item,
+            kind: 1,
+        }),
+        None => ahead_item(text, reader),
+    }
 }
 
 // Where the filling stands: the index of the next node, and that of the innermost open list. Before the root, where none is open, both are 0: document 02 gives
@@ -177,40 +231,47 @@ impl Mark {
         }
     }
 
-    // The item that next_item gave is written.
-    fn put_item(self, text: &[u8], table: &mut [u32], item: ParsedItem) -> Mark
-        requires { CanTurn text.now table.old self item }
-        ensures { Turns text.now table.old self item result table.new }
+    // The item that next_item gave is written, an atom with its kind.
+    #[inline(always)]
+    fn put_item(self, table: &mut [u32], item: ParsedItem, kind: u32) -> Mark
+        requires { CanWrite table.old self item kind }
+        ensures { Writes table.old self item kind result table.new }
     {
         match item {
-            ParsedItem::Atom { pos, len } => self.put_atom(
-                table,
-                kind_at(text, pos, len),
-                pos,
-                len,
-            ),
+            ParsedItem::Atom { pos, len } => self.put_atom(table, kind, pos, len),
             ParsedItem::ListStart { .. } => self.put_start(table),
             ParsedItem::ListEnd { .. } => self.close_list(table),
         }
     }
 }
 
-// Reads a node again, which is known to be one and to have room, and writes its words. Items are asked for as in count_nodes; the node ends where as many lists
-// are open as before it.
-pub(crate) fn fill_nodes(text: &[u8], mut reader: Reader, table: &mut [u32])
+// Reads a node again, which is known to be one and to have room, and writes its words. Items are asked for, and the node ends, as in count_nodes. A function of
+// its own for the compiler, too: inside its caller the loop would have to read the text's place and the table's from memory at each turn.
+#[inline(never)]
+pub(crate) fn fill_nodes(text: &[u8], reader: Reader, table: &mut [u32])
     requires { CanFill text.now reader table.old }
     ensures { DoesFill text.now reader table.old table.new }
 {
-    let lists = reader.lists;
-    let mut mark = Mark { next: 0, parent: 0 };
+    let Some(first) = due_item(text, reader) else {
+        return;
+    };
+    let start = Mark { next: 0, parent: 0 };
+    let mut mark = start.put_item(table, first.item, first.kind);
+    let mut behind = first.reader;
+    if behind.lists == reader.lists {
+        return;
+    }
     loop {
-        let next = reader.next_item(text);
-        reader = next.reader;
-        let Ok(item) = next.answer else {
+        let inside = Reader {
+            phase: Phase::Parsing,
+            ..behind
+        };
+        let Some(due) = due_item(text, inside) else {
             return;
         };
-        mark = mark.put_item(text, table, item);
-        if reader.lists == lists {
+        behind = due.reader;
+        mark = mark.put_item(table, due.item, due.kind);
+        if behind.lists == reader.lists {
             return;
         }
     }

@@ -1,7 +1,7 @@
 // Tables: whether one holds a tree, and the node at the end of a path.
 ghost use Rattle.std.specs.Prelude.{◌≡◌, ◌+◌, ◌/◌, ◌^◌, ◌≤◌, ◌<◌, true, cond, eqb, length, is_some};
-ghost use Rattle.sise_tree.specs.Tree.{good, fills_in, fits_kind};
-ghost use Rattle.sise_tree.specs.Parts.{SameFrom, atom_holds_at};
+ghost use Rattle.sise_tree.specs.Tree.{fills_in, fits_kind};
+ghost use Rattle.sise_tree.specs.Parts.{SameFrom, good_in, atom_holds_at};
 ghost use Rattle.sise_tree.specs.NodeWords.{words_at, node_words};
 ghost use Rattle.sise_tree.specs.Decision.{decide};
 ghost use Rattle.sise_tree.specs.Held.{held_if, held_as};
@@ -161,16 +161,15 @@ impl<'a> TreeTable<'a> {
         Some(words_of(self.table, i))
     }
 
-    // What node `i` is, which is in the table: it has one of the two forms, and an atom's bytes are an atom, or not. A list is tested as the first node of the
-    // part of the table from it on, which is enough (proofs/LocalLaws.antt). Its third word is looked at where its parent steps over it.
-    fn node_holds(self, i: usize) -> Result<(), TableError>
-        requires { i < length self.table.now / 4 }
-        ensures { result ≡ held_if (good self.entry.text.now self.entry.table.now i) (atom_holds_at self.entry.text.now self.entry.table.now i) }
+    // What the first node is: it is in the table and has one of the two forms, and an atom's bytes are an atom, or not. A list's third word is looked at where
+    // its parent steps over it.
+    fn node_holds(self) -> Result<(), TableError>
+        ensures { result ≡ held_if (good_in self.entry.text.now self.entry.table.now 0) (atom_holds_at self.entry.text.now self.entry.table.now 0) }
     {
-        let node = words_of(self.table, i);
+        let node = self.node(0).ok_or(TableError::NotATree)?;
         let first = wide(node.first);
         if node.kind == 0 {
-            if fills(&self.table[4 * i..], first, wide(node.span)) {
+            if fills(self.table, first, wide(node.span)) {
                 return Ok(());
             }
             return Err(TableError::NotATree);
@@ -182,8 +181,9 @@ impl<'a> TreeTable<'a> {
         kind_holds(node.kind, check_atom_prefix(&self.text[first..], len))
     }
 
-    // What the table holds over the text. Each node is tested by itself and stepped over once, by its list; an atom's bytes are looked at once. So the time is
-    // linear in the first node's span and the bytes of its atoms.
+    // What the table holds over the text. Each node is tested by itself, as the first of the part of the table from it on, which is enough
+    // (proofs/LocalLaws.antt), and stepped over once, by its list; an atom's bytes are looked at once. So the time is linear in the first node's span and the
+    // bytes of its atoms.
     pub fn holds_tree(self) -> Result<(), TableError>
         ensures { result ≡ held_as self.entry.text.now (decide self.entry.text.now self.entry.table.now) }
     {
@@ -193,9 +193,13 @@ impl<'a> TreeTable<'a> {
             return Err(TableError::NotATree);
         }
         let mut held = Ok(());
-        // By the index, by which a list's part of the table is found.
+        // By the index, by which the part of the table is found.
         for i in 0..end {
-            match self.node_holds(i) {
+            let part = TreeTable {
+                table: &self.table[4 * i..],
+                ..self
+            };
+            match part.node_holds() {
                 Ok(()) => {}
                 Err(TableError::NoAtom) => held = Err(TableError::NoAtom),
                 Err(TableError::NotATree) => return Err(TableError::NotATree),

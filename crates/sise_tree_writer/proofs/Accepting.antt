@@ -24,7 +24,7 @@ module _ (s : Style) (b : List ℕ) (w : Serializer) (text words : List ℕ) (t 
     tree_taken : Accepted s b w text words (tree_calls text t)
     tree_taken = tree_accepted s b w text words (tree_calls text t) e
 
-    tree_writable : Writable s b w text words t
+    pub tree_writable : Writable s b w text words t
     tree_writable = record {
       walkable = record { sound = tree_taken.sound; checked = accepted_checked tree_taken };
       fit = λ n d. rw (some-injective _ _ (sym d ∙ tree_taken.decided)) tree_taken.fit;
@@ -38,7 +38,7 @@ module _ (s : Style) (b : List ℕ) (w : Serializer) (text words : List ℕ) (t 
     text_taken : Accepted s b w text words (text_calls text t wished)
     text_taken = tree_accepted s b w text words (text_calls text t wished) e
 
-    text_writable : Writable s b w text words t
+    pub text_writable : Writable s b w text words t
     text_writable = record {
       walkable = record { sound = text_taken.sound; checked = accepted_checked text_taken };
       fit = λ n d. rw (some-injective _ _ (sym d ∙ text_taken.decided)) (text_tree _ _ _ _ _ _ _ text_taken.fit);

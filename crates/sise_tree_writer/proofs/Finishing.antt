@@ -118,7 +118,7 @@ module _ (s : Style) (room : ℕ) (w : Serializer) (text words : List ℕ) (t : 
       whole = text_calls text t wished taken.node
 
       -- the finish has no room
-      text_full : is_accepted (step s room r.serializer (finish_call wished)).answer ≡ false → (b : List ℕ) → length b ≡ room
+      pub text_full : is_accepted (step s room r.serializer (finish_call wished)).answer ≡ false → (b : List ℕ) → length b ≡ room
           → DoesMeasure (write_tree s b w text words (text_calls text t wished)) (record { serializer = w; answer = Err NoRoom })
       unfolding text_calls
       text_full plan b long =
@@ -141,7 +141,7 @@ module _ (s : Style) (room : ℕ) (w : Serializer) (text words : List ℕ) (t : 
       finish_off plan b long = rw plan.0 (text_full plan.1 b long)
 
   -- the tree has no room, or is refused before: so is the whole text
-  text_none : (wished : Bool) → ((o : ℕ) → put_as r.answer ≡ answered o → ⊥) → (b : List ℕ) → length b ≡ room → DoesMeasure (write_tree s b w text words (text_calls text t wished)) r
+  pub text_none : (wished : Bool) → ((o : ℕ) → put_as r.answer ≡ answered o → ⊥) → (b : List ℕ) → length b ≡ room → DoesMeasure (write_tree s b w text words (text_calls text t wished)) r
   unfolding text_calls
   text_none wished never b long = of (tested s w text words)
     where

@@ -5,7 +5,7 @@ use Prim.Native.Nat.{ℕ, ◌+◌, ◌-◌, ◌*◌, ◌<◌}
 use native.Mathlib.Omega.{arith}
 use mathlib.Core.Path.{◌≡◌, refl, sym, ◌∙◌}
 use mathlib.Core.Bool.{true, false, cond}
-use Rattle.std.specs.Prelude.{Option, Some, None}
+use Rattle.std.specs.Prelude.{Option, Some, None, IfSome}
 use mathlib.Core.List.{List, [], ◌∷◌, ◌++◌, append_assoc}
 use lib.Dec.{eqb}
 use lib.ListN.{length}
@@ -59,6 +59,8 @@ pub record Turned (words text : List ℕ) (t : ℕ) (p : Place) (rest : List Cal
   pub due : rest ≡ turn_call x t ∷ more
   pub next : AtDue words text t (passed words p x) more
   pub passable : Passable words p x
+  pub within : (p.i ≡ p.end → ⊥) → p.i < span words 0
+  pub started : IfSome (passed words p x) (λ q. 0 < q.i)
   pub less : turns_left words (passed words p x) < turns_left words (Some p)
 
 -- the nodes left behind a node that is passed
@@ -73,16 +75,38 @@ module _ (words text : List ℕ) (t : ℕ) where
   due_within (inside empty o w z q) f = absurd (f (omega (arith, z, w.rest.stop)))
   due_within (inside (n then c) o w z q) f = let bounds = walk_within words (n then c) o w in omega (arith, bounds.1, size_pos n)
 
+  -- where a list ends, a node was passed
+  pub end_started : {p : Place} {rest : List Call} → At words text t p rest → p.i ≡ p.end → 0 < p.i
+  end_started (root n h e q) z = omega (arith, h.spans, size_pos n, (rw e at z))
+  end_started (inside c o w e q) z = omega (arith, (walk_within words c o w).0)
+
   -- ---- before the first node
 
   root_turn : (n : Node) → Held text words n → (x : Turn) → IsTurn text words (started words) x → Turned words text t (started words) (tree_calls text t n) x
   unfolding node_calls table_at size pending lies
   root_turn n h turn.End z = absurd (omega (arith, z, h.spans, size_pos n))
   root_turn (atom w m k) h turn.List z = let s = stands words 0 (holds_words h.holds) in absurd (sits_kind text w m k h.holds.in_text (sym s.kinds ∙ z.1))
-  root_turn (list c) h turn.List z = record { more = pending text largest t c []; due = refl; next = inside c [] (walk_root c h) refl refl; passable = omega (arith, h.fits); less = omega (arith, h.fits, fewer (length words) 0) }
+  root_turn (list c) h turn.List z =
+      record {
+        more = pending text largest t c [];
+        due = refl;
+        next = inside c [] (walk_root c h) refl refl;
+        passable = omega (arith, h.fits);
+        within = due_within (root (list c) h refl refl);
+        started = omega arith;
+        less = omega (arith, h.fits, fewer (length words) 0);
+      }
   root_turn (atom w m k) h (turn.Atom a begins) z =
       let s = stands words 0 (holds_words h.holds) in
-      record { more = []; due = rw (z.2, z.3, s.firsts, s.seconds); next = refl; passable = omega (arith, h.fits); less = omega arith }
+      record {
+        more = [];
+        due = rw (z.2, z.3, s.firsts, s.seconds);
+        next = refl;
+        passable = omega (arith, h.fits);
+        within = due_within (root (atom w m k) h refl refl);
+        started = tt;
+        less = omega arith;
+      }
   root_turn (list c) h (turn.Atom a begins) z = let s = stands words 0 (holds_words h.holds) in absurd (z.1 s.kinds)
 
   -- ---- inside it
@@ -99,6 +123,8 @@ module _ (words text : List ℕ) (t : ℕ) where
           due = rw none;
           next = rw last refl;
           passable = record { listed = omega (arith, r.stop, r.fit, r.behind, r.after); away = λ f. absurd (f last) };
+          within = λ f. absurd (f z);
+          started = rw last tt;
           less = rw last (omega arith);
         }
     close_turn c (d ∷ o) w z =
@@ -111,6 +137,8 @@ module _ (words text : List ℕ) (t : ℕ) where
           due = rw none;
           next = rw inner (inside d o (walk_close words d o (rw none at w)) refl refl);
           passable = record { listed = omega (arith, r.stop, r.fit, r.behind, r.after); away = λ f. child.within };
+          within = λ f. absurd (f z);
+          started = rw inner (end_started {p = p} (inside c (d ∷ o) w ends refl) z);
           less = rw inner (omega (arith, child.away, child.within));
         }
 
@@ -126,6 +154,8 @@ module _ (words text : List ℕ) (t : ℕ) where
           due = pending_list text (cond p.begins largest t) t d c o;
           next = inside d (c ∷ o) s.next refl refl;
           passable = omega (arith, w.rest.fit);
+          within = due_within {p = p} (inside (list d then c) o w ends refl);
+          started = omega arith;
           less = omega (arith, w.rest.fit, fewer (length words) p.i);
         }
     inside_turn empty o w (turn.Atom a begins) z = absurd (z.0 (omega (arith, ends, w.rest.stop)))
@@ -138,6 +168,8 @@ module _ (words text : List ℕ) (t : ℕ) where
           due = pending_atom text (cond p.begins largest t) t g m k c o ∙ rw (z.2, z.3, s.places, s.lengths);
           next = rw later (inside c o s.next ends refl);
           passable = omega (arith, w.rest.fit);
+          within = due_within {p = p} (inside (atom g m k then c) o w ends refl);
+          started = rw later (omega arith);
           less = rw later (omega (arith, w.rest.fit, fewer (length words) p.i));
         }
     inside_turn (list d then c) o w (turn.Atom a begins) z = absurd (z.1 (walk_list words d c o w).kinds)

@@ -10,7 +10,7 @@ use lib.ListN.{length, take, drop, get_or, drop_of_length-le}
 use borrow.Author.Tests.{le-leb, leb-true, ltb-true, ltb-false}
 use Rattle.std.specs.Prelude.{Result}
 use Rattle.sise_util.specs.Chars.{within}
-use Rattle.sise_util.specs.Utf8.{Range, range, Form, form, forms, ill, follow, by_rows, character}
+use Rattle.sise_util.specs.Utf8.{Range, range, tail, Form, form, forms, well, ill, follow, by_rows, character}
 use Rattle.sise_util.specs.declared.utf8.Character.{Character}
 use Rattle.sise_util.specs.declared.utf8.IllFormed.{IllFormed}
 use Rattle.sise_util.proofs.Lists.{drop-next}
@@ -48,6 +48,31 @@ module _ (text : List ℕ) (at lo hi c n : ℕ) (rs : List Range) where
       split (ltb at (length text))
       (λ t. let h = ltb-true at (length text) t in sym (ap (follow c n (range lo hi ∷ rs)) (drop-next text at h) ∙ rw (within_no lo hi octet (d h), follow)))
       (λ t. sym (ap (follow c n (range lo hi ∷ rs)) (drop_of_length-le text (ltb-false at (length text) t))))
+
+-- no octet is due any more
+pub ends : (c n : ℕ) (l : List ℕ) → follow c n [] l ≡ well c n
+unfolding follow
+ends c n l = refl
+
+-- where two UTF8-tail are due, of a character of four: both stand there, or the first alone, or not even that
+module _ (l : List ℕ) (c : ℕ) where
+  abbrev third : ℕ
+  third = get_or l 0 0
+
+  abbrev fourth : ℕ
+  fourth = get_or l 1 0
+
+  pub two_tails : (begun : ℕ) → begun ≡ c → 1 < length l → 0x80 ≤ third → third ≤ 0xBF → 0x80 ≤ fourth → fourth ≤ 0xBF
+      → well ((begun * 64 + (third - 0x80)) * 64 + (fourth - 0x80)) 4 ≡ follow c 4 (tail ∷ tail ∷ []) l
+  two_tails begun e h from to from' to' =
+      ap (λ (n : ℕ). well ((n * 64 + (third - 0x80)) * 64 + (fourth - 0x80)) 4) e
+      ∙ sym (hit l 0 0x80 0xBF c 4 (tail ∷ []) (omega arith) from to ∙ hit l 1 0x80 0xBF _ 4 [] h from' to' ∙ ends _ 4 _)
+
+  pub one_tail : 0 < length l → 0x80 ≤ third → third ≤ 0xBF → (1 < length l → 0x80 ≤ fourth → fourth ≤ 0xBF → ⊥) → ill 3 ≡ follow c 4 (tail ∷ tail ∷ []) l
+  one_tail h from to d = miss l 1 0x80 0xBF _ 4 [] d ∙ sym (hit l 0 0x80 0xBF c 4 (tail ∷ []) h from to)
+
+  pub no_tail : (0 < length l → 0x80 ≤ third → third ≤ 0xBF → ⊥) → ill 2 ≡ follow c 4 (tail ∷ tail ∷ []) l
+  no_tail d = miss l 0 0x80 0xBF c 4 (tail ∷ []) d
 
 -- which row it is: the first octet says
 

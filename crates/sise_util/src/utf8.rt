@@ -37,7 +37,8 @@ fn three(lead: u8, next: u8, due: &[u8]) -> Result<Character, IllFormed>
 }
 
 // After the free bits of two octets of a character of four: the two UTF8-tail that are due. It is no case of `three`: an octet more is read, tested and
-// shifted in.
+// shifted in. Its proof names laws and no places of the code, so that a wrong range is refused for what it accepts.
+#[tactic(auto, using(crate::proofs::Utf8Steps::two_tails, crate::proofs::Utf8Steps::one_tail, crate::proofs::Utf8Steps::no_tail))]
 fn four(lead: u8, next: u8, due: &[u8]) -> Result<Character, IllFormed>
     ensures { result ≡ follow (lead * 64 + next) 4 (tail ∷ tail ∷ []) due.now }
 {

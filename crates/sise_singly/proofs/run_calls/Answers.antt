@@ -15,9 +15,9 @@ returns-in_default c = rw (set-get_or c.loop-k.answers c.loop-k.k 0) (fresh_runs
 
 pub loop-k-preserved : goal.loop-k-preserved
 loop-k-preserved c =
-    let does = c.make_call-wrote.ensures in
+    let does = c.call_method-wrote.ensures in
     on c.loop-k.invariant _ c.in-Some.behind.now (omega arith) c.in-Some.ensures.0
-    does.serializer (c.put_word.ensures ∙ ap answer_word does.answer) does.buffer c.make_call-wrote.auto.buf
+    does.serializer (c.put_word.ensures ∙ ap answer_word does.answer) does.buffer c.call_method-wrote.auto.buf
 
 pub returns : goal.returns
 returns c =

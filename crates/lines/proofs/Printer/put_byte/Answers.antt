@@ -1,5 +1,5 @@
 -- The byte goes to the place in the block, or to the start of the next one.
-use Rattle.std.proofs.Common.{◌≡◌, ◌∙◌, ℕ, ◌+◌, ◌<◌, ◌≤◌, [], ◌∷◌, slice_set, ap, refl, rules}
+use Rattle.std.proofs.Common.{◌≡◌, ◌∙◌, List, ℕ, ◌+◌, ◌<◌, ◌≤◌, [], ◌∷◌, slice_set, ap, refl, rules}
 use Rattle.std.proofs.lemmas.Bool.{cond_below, cond_above}
 use Rattle.lines.specs.Put.{Output, output, place_in, put_byte, put}
 use Rattle.lines.proofs.Printer.put_byte.Goals as goal
@@ -13,15 +13,17 @@ in_block : (o : Output) → o.place < 4096 → o ≡ output (place_in o) o.bytes
 unfolding place_in
 in_block o h = ap (λ (p : ℕ). output p o.bytes) (cond_below o.place 4096 o.place 0 h)
 
-next_block : (o : Output) → 4096 ≤ o.place → output 0 o.bytes ≡ output (place_in o) o.bytes
+next_block : {o : Output} (place : ℕ) (block : List ℕ) → 4096 ≤ place → output place block ≡ o → output 0 block ≡ output (place_in o) o.bytes
 unfolding place_in
-next_block o h = ap (λ (p : ℕ). output p o.bytes) (cond_above o.place 4096 o.place 0 0 h refl)
+next_block place block h e =
+    ap (λ (p : ℕ). output p block) (cond_above place 4096 place 0 0 h refl)
+    ∙ ap (λ (x : Output). output (place_in x) x.bytes) e
 
 pub returns : goal.returns
 returns c =
     placed _ _ _
     (c.self-2.view_is
     ∙ elim c.if-self-ge4096.branch [
-      | then-self-ge4096 w ↦ w.self-is ∙ w.flush.ensures ∙ next_block _ (search rules)
+      | then-self-ge4096 w ↦ w.self-is ∙ w.flush.ensures ∙ next_block _ _ (search rules) c.self.view_is
       | else-self-ge4096 w ↦ w.self-is ∙ in_block _ (search rules)
     ])

@@ -10,8 +10,8 @@ behind : {s t u : List ℕ} {a b n m : ℕ} → s ≡ a ∷ t → a ≡ b → Fi
 behind {s} {t} {u} e f p g = (t, e ∙ ap (λ (x : ℕ). x ∷ t) f, line_one p g)
 
 -- the letter is read from the front
-front : {o : Option ℕ} {s t : List ℕ} {a : ℕ} → o ≡ Some a → MatchOption o (s ≡ []) (λ b. s ≡ b ∷ t) → s ≡ a ∷ t
-front {s = s} {t} e m = subst (λ (o : Option ℕ). MatchOption o (s ≡ []) (λ b. s ≡ b ∷ t)) e m
+front : {o : Option ℕ} {s t : List ℕ} {a : ℕ} → o ≡ Some a → MatchOption o ((s ≡ []) × (t ≡ [])) (λ b. s ≡ b ∷ t) → s ≡ a ∷ t
+front {s = s} {t} e m = subst (λ (o : Option ℕ). MatchOption o ((s ≡ []) × (t ≡ [])) (λ b. s ≡ b ∷ t)) e m
 
 pub returns-in-40-default : goal.returns-in-40-default
 returns-in-40-default c = (_, c.meant.ensures, behind (front (search rules) c.next_byte.ensures) c.in-40-default.is-0 c.in_ok-number.ensures refl)

@@ -14,4 +14,6 @@ returns c =
           ∙ ap (λ (x : List ℕ). c.in_ok-line_break.line_break.now ++ x) c.in_ok-indentation.ensures.front
           ∙ sym (append_assoc c.in_ok-line_break.line_break.now _ _))))),
       omega arith,
+      omega (arith, c.in_ok-line_break.ensures.len),
+      omega (arith, c.in_ok-indentation.ensures.len),
     )

@@ -41,3 +41,6 @@ returns-in_default c = other_byte c.args.byte (grind arith) (grind arith) (grind
 
 pub returns-in_default-2 : goal.returns-in_default-2
 returns-in_default-2 c = other_byte c.args.byte (grind arith) (grind arith) (grind arith) (grind arith)
+
+pub returns-then-byte-gt32 : goal.returns-then-byte-gt32
+returns-then-byte-gt32 c = other_byte c.args.byte (grind arith) (grind arith) (grind arith) (grind arith)

@@ -26,8 +26,8 @@ within text p e = split (ltb p (length text)) (λ l. ltb-true p (length text) l)
 
 pub loop-at-init : goal.loop-at-init
 loop-at-init c =
-    let a = runs_to c.args.text.now c.args.start _ c.atom_run-at.ensures.same in
-    record { after = c.atom_run-at.ensures.after; same = a.same _; ran = (_, a) }
+    let a = runs_to c.args.text.now c.args.start _ c.requires.run in
+    record { after = a.after; same = a.same _; ran = (_, a) }
 
 pub loop-at-preserved : goal.loop-at-preserved
 loop-at-preserved c =
@@ -35,9 +35,9 @@ loop-at-preserved c =
     let at = c.loop-at.at in
     let q = eqb-true (get_or text at 0) 34 (sym c.is_quote_at.ensures ∙ c.loop-at-test.true) in
     let e = known c.lex_string.ensures c.in_ok-lex_string.was in
-    let a = runs_to text _ _ c.atom_run-at-in-loop-at.ensures.same in
+    let a = runs_to text _ _ c.atom_run-at.ensures.same in
     record {
-      after = omega (arith, c.loop-at.invariant.after, e.after.0, c.atom_run-at-in-loop-at.ensures.after);
+      after = omega (arith, c.loop-at.invariant.after, e.after.0, c.atom_run-at.ensures.after);
       same = c.loop-at.invariant.same ∙ plain_string_lem text at (within text at q) c.args.start q ∙ e.same _ ∙ a.same _;
       ran = (_, a);
     }

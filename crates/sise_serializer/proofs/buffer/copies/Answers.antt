@@ -1,4 +1,4 @@
--- A uniform src is filled in at once. Else, before each turn the buffer has as many copies of src pasted at `at` as there were turns.
+-- No copy is no byte, and a uniform src is filled in at once. Else, before each turn the buffer has as many copies of src pasted at `at` as there were turns.
 use Prim.Native.Nat.{ℕ, ◌+◌, ◌*◌, ◌≤◌, ◌<◌}
 use native.Mathlib.Nat.{mul-le-mul_right, suc-mul}
 use native.Mathlib.Omega.{arith}
@@ -20,10 +20,13 @@ uniform n b s part h e p =
 room : (k times at : ℕ) (s buf : List ℕ) → k < times → at + times * length s ≤ length buf → at + k * length s + length s ≤ length buf
 room k times at s buf h r = omega (arith, mul-le-mul_right (length s) h, suc-mul k (length s))
 
+pub returns-then-times-eq0 : goal.returns-then-times-eq0
+returns-then-times-eq0 c = rw c.if-times-eq0.true (sym (pasted_none c.args.buf.now c.args.at))
+
 pub returns-in-Some : goal.returns-in-Some
 returns-in-Some c =
     let a = c.args in
-    pasted_part _ _ _ _ _ (uniform a.times c.in-Some.byte a.src.now _ c.in-Some.ensures (search rules) (c.fill.ensures.after (λ y h. search rules))) (omega (arith, repeat_length a.times a.src.now))
+    pasted_part _ _ _ _ _ (uniform a.times c.in-Some.byte a.src.now _ c.in-Some.ensures.1 (search rules) (c.fill.ensures.after (λ y h. search rules))) (omega (arith, repeat_length a.times a.src.now))
 
 pub loop-k-init : goal.loop-k-init
 loop-k-init c = (sym (pasted_none c.args.buf.now c.args.at), refl)

@@ -1,6 +1,6 @@
 -- Where fewer than four words are left there is no call; else the kind tells.
 use mathlib.Core.Path.{refl, ◌∙◌}
-use Rattle.sise_serializer.proofs.Running.{decoded_short, decoded_four}
+use Rattle.sise_serializer.proofs.Running.{decoded_short, decoded_four, call_at_take}
 use Rattle.sise_serializer.proofs.calls.next_call.Goals as goal
 
 pub returns-in_err-four : goal.returns-in_err-four
@@ -17,4 +17,5 @@ returns c =
     let h = c.in_ok-four.ensures.cases in (
       decoded_four c.args.words.now c.in_ok-four.four.now c.in_ok-four.behind.now c.args.atoms.now h ∙ rw (c.in_ok-call.ensures.0, c.in_ok-call.ensures.1) refl,
       h.1,
+      c.in_ok-call.ensures.1 ∙ rw h.0 (call_at_take c.args.words.now c.args.atoms.now),
     )

@@ -1,15 +1,17 @@
--- The four words are copied in at once, as the definition puts them in.
-use Prim.Native.Nat.{◌+◌, ◌-◌, ◌*◌}
+-- The four writes, one after the other, are one change of the words.
 use native.Mathlib.Omega.{arith}
-use mathlib.Core.Path.{◌≡◌, refl}
-use lib.Seq.{drop-drop}
-use Rattle.sise_tree.specs.Filling.{put_at}
+use lib.ListN.{length-set}
+use Rattle.sise_tree.proofs.FillingLaws.{put_four}
 use Rattle.sise_tree.proofs.parse.put.Goals as goal
 
+pub bounds-table-i-2 : goal.bounds-table-i-2
+bounds-table-i-2 c = simp length-set (omega (arith, c.requires))
+
+pub bounds-table-i-3 : goal.bounds-table-i-3
+bounds-table-i-3 c = simp length-set (omega (arith, c.requires))
+
+pub bounds-table-i-4 : goal.bounds-table-i-4
+bounds-table-i-4 c = simp length-set (omega (arith, c.requires))
+
 pub returns : goal.returns
-unfolding put_at
-returns c =
-    let i = c.args.i in
-    let four : 4 * i + 4 - 4 * i ≡ 4 = omega arith in
-    let behind : 4 * (i + 1) ≡ 4 * i + 4 = omega arith in
-    rw (four, behind, c.copy_from_slice.ensures.after, drop-drop 4 (4 * i) c.args.table.now) refl
+returns c = put_four _ _ _ _ _ _ (omega (arith, c.requires))

@@ -8,15 +8,15 @@ use mathlib.Core.List.{List}
 use lib.ListN.{length, get_or}
 use Rattle.std.proofs.lemmas.List.{take_rest}
 use Rattle.sise_util.specs.Utf8.{well, forms, follow, character}
-use Rattle.sise_util.proofs.Utf8Steps.{row_at, no_row_at, goes_on, stops, none, alone}
+use Rattle.sise_util.proofs.Utf8Steps.{row_at, no_row_at, goes_on, stops, none, alone, ends}
 use Rattle.sise_util.proofs.utf8.utf8_char.Goals as goal
 
 pub returns-in-empty : goal.returns-in-empty
 returns-in-empty c = none c.args.bytes.now (omega arith)
 
 first_row : (l : List ℕ) → 0 < length l → get_or l 0 0 ≤ 0x7F → well (get_or l 0 0) 1 ≡ character l
-unfolding forms follow
-first_row l h k = ap (λ (n : ℕ). well n 1) (sym (sub-zero (get_or l 0 0))) ∙ row_at l h 0 (omega arith) (omega arith)
+unfolding forms
+first_row l h k = ap (λ (n : ℕ). well n 1) (sym (sub-zero (get_or l 0 0))) ∙ sym (ends _ 1 _) ∙ row_at l h 0 (omega arith) (omega arith)
 
 pub returns-in-0-to-127 : goal.returns-in-0-to-127
 returns-in-0-to-127 c = first_row c.args.bytes.now (grind arith) (grind arith)
@@ -50,8 +50,8 @@ unfolding forms
 returns-in-241-to-243 c = c.four-in-241-to-243.ensures ∙ ap (follow _ _ _) (take_rest c.args.bytes.now 2) ∙ goes_on c.args.bytes.now (omega arith) 7 refl (omega arith) (omega arith) (omega arith) (omega arith) (omega arith)
 
 pub returns-in-194-to-223 : goal.returns-in-194-to-223
-unfolding forms follow
-returns-in-194-to-223 c = ap (λ (n : ℕ). well n 2) c.joined.ensures ∙ goes_on c.args.bytes.now (omega arith) 1 refl (omega arith) (omega arith) (omega arith) (omega arith) (omega arith)
+unfolding forms
+returns-in-194-to-223 c = ap (λ (n : ℕ). well n 2) c.joined.ensures ∙ sym (ends _ 2 _) ∙ goes_on c.args.bytes.now (omega arith) 1 refl (omega arith) (omega arith) (omega arith) (omega arith) (omega arith)
 
 pub returns-in_default : goal.returns-in_default
 returns-in_default c = alone c.args.bytes.now (omega arith) (omega arith)

@@ -104,8 +104,8 @@ returns-then-end-atom c = whole c.loop-at.invariant c.loop-at-test.true c.if-ato
 pub loop-at-preserved : goal.loop-at-preserved
 loop-at-preserved c =
     let e = take_rest c.args.atom.now c.in_ok-end.end in
-    let run = subst (λ (m : List ℕ). PlainTo m c.plain_end.result) e c.plain_end.ensures.run in
-    let stop = subst (λ (m : List ℕ). StopsAt m c.plain_end.result) e c.plain_end.ensures.stop in
+    let run = subst (λ (m : List ℕ). PlainTo m c.run_end.result) e c.run_end.ensures.run in
+    let stop = subst (λ (m : List ℕ). StopsAt m c.run_end.result) e c.run_end.ensures.stop in
     passed c.loop-at.invariant c.loop-at-test.true c.if-atom-at-ne34.false c.in_ok-end.ensures (λ first all. grind arith) run stop
 
 pub returns : goal.returns

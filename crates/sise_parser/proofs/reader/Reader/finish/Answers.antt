@@ -38,16 +38,16 @@ pub returns-in_err-found : goal.returns-in_err-found
 unfolding token_at ends_at
 returns-in_err-found c =
     let p = err_from_is_err_and c.from_residual.result c.from_residual.ensures.1 in
-    rw (p.1, p.2) (finish_token c.args.text.now c.args.self (sym c.is_sound.ensures ∙ c.if-not-is_sound.false) (differs_false the_type _ _ _ (sym c.ne.ensures ∙ c.if-ne.false)) c.in_err-found.ensures)
+    rw (p.1, p.2) (finish_token c.args.text.now c.args.self (sym c.is_sound.ensures ∙ c.if-not-is_sound.false) (differs_false the_type _ _ _ (sym c.ne.ensures ∙ c.if-ne.false)) (c.in_err-found.ensures ∙ sym c.skip_blanks-start.ensures.token))
 
 pub returns-in-Eof : goal.returns-in-Eof
 unfolding token_at
 returns-in-Eof c =
     at_end_lem c.in_ok-found.found c.in-Eof.is
-    ∙ finish_token c.args.text.now c.args.self (sym c.is_sound.ensures ∙ c.if-not-is_sound.false) (differs_false the_type _ _ _ (sym c.ne.ensures ∙ c.if-ne.false)) c.in_ok-found.ensures
+    ∙ finish_token c.args.text.now c.args.self (sym c.is_sound.ensures ∙ c.if-not-is_sound.false) (differs_false the_type _ _ _ (sym c.ne.ensures ∙ c.if-ne.false)) (c.in_ok-found.ensures ∙ sym c.skip_blanks-start.ensures.token)
 
 pub returns-in_default : goal.returns-in_default
 unfolding token_at
 returns-in_default c =
     before_end c.in_ok-found.found c.in_default.not-Eof
-    ∙ finish_token c.args.text.now c.args.self (sym c.is_sound.ensures ∙ c.if-not-is_sound.false) (differs_false the_type _ _ _ (sym c.ne.ensures ∙ c.if-ne.false)) c.in_ok-found.ensures
+    ∙ finish_token c.args.text.now c.args.self (sym c.is_sound.ensures ∙ c.if-not-is_sound.false) (differs_false the_type _ _ _ (sym c.ne.ensures ∙ c.if-ne.false)) (c.in_ok-found.ensures ∙ sym c.skip_blanks-start.ensures.token)
