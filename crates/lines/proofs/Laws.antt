@@ -17,12 +17,17 @@ put_append o (c ∷ s) t = put_append (put_byte o c) s t
 pub put_both : (o : Output) {p q : Output} (s t : List ℕ) → p ≡ put o s → q ≡ put p t → q ≡ put o (s ++ t)
 put_both o s t e f = f ∙ ap (λ (x : Output). put x t) e ∙ sym (put_append o s t)
 
--- a place within the block, which is one of 4096 at most, stays within it, whatever is put
-pub put_within : (o : Output) (s : List ℕ) → o.place ≤ 4096 → (put o s).place ≤ 4096
+-- behind a byte, the place is within the block, which is one of 4096 at most
+pub some_within : (o : Output) (c : ℕ) (s : List ℕ) → (put o (c ∷ s)).place ≤ 4096
 unfolding put put_byte place_in
+some_within o c [] = cond_both (ltb o.place 4096) o.place 0 (λ (n : ℕ). n + 1 ≤ 4096) (λ e. omega (arith, ltb-true _ _ e)) (λ e. omega arith)
+some_within o c (d ∷ s) = some_within (put_byte o c) d s
+
+-- and a place that was within it stays so, whatever is put
+pub put_within : (o : Output) (s : List ℕ) → o.place ≤ 4096 → (put o s).place ≤ 4096
+unfolding put
 put_within o [] h = h
-put_within o (c ∷ s) h =
-    put_within (put_byte o c) s (cond_both (ltb o.place 4096) o.place 0 (λ (n : ℕ). n + 1 ≤ 4096) (λ e. omega (arith, ltb-true _ _ e)) (λ e. omega arith))
+put_within o (c ∷ s) h = some_within o c s
 
 -- a number of k + 2 digits is ten times 10 ^ k at least
 at_least : (n k : ℕ) → IsDigitCount 10 1 n (suc (suc k)) → 10 ^ k * 10 ≤ n
