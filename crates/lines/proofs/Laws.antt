@@ -1,10 +1,12 @@
--- Laws of putting bytes: those of two strings one after the other are those of the two together; and the fewest digits that hold a number are its
--- decimal digits.
-use Rattle.std.proofs.Common.{◌≡◌, refl, sym, ap, ◌∙◌, Bool, cond, List, [], ◌∷◌, ◌++◌, ℕ, zero, suc, ◌*◌, ◌-◌, ◌/◌, ◌%◌, ◌^◌, ◌≤◌, pow-suc, div-lt_iff_lt-mul, le-div_iff_mul-le, zero-lt-suc, arith}
+-- Laws of putting bytes: those of two strings one after the other are those of the two together; a place within the block stays within it; and the fewest
+-- digits that hold a number are its decimal digits.
+use Rattle.std.proofs.Common.{◌≡◌, refl, sym, ap, ◌∙◌, Bool, cond, List, [], ◌∷◌, ◌++◌, ℕ, zero, suc, ◌+◌, ◌*◌, ◌-◌, ◌/◌, ◌%◌, ◌^◌, ◌≤◌, pow-suc, div-lt_iff_lt-mul, le-div_iff_mul-le, zero-lt-suc, arith}
 use Rattle.std.proofs.Math.Nat.{one-le-pow}
-use Rattle.std.proofs.lemmas.Bool.{lt-ltb, le-ltb}
+use Rattle.std.proofs.lemmas.Bool.{cond_both, lt-ltb, le-ltb}
+use lib.Dec.{ltb}
+use borrow.Author.Tests.{ltb-true}
 use Rattle.io.specs.Digits.{hex_digit_ascii, last_digits, IsDigitCount}
-use Rattle.lines.specs.Put.{Output, put_byte, put, decimal_of}
+use Rattle.lines.specs.Put.{Output, place_in, put_byte, put, decimal_of}
 
 pub put_append : (o : Output) (s t : List ℕ) → put o (s ++ t) ≡ put (put o s) t
 unfolding put
@@ -14,6 +16,18 @@ put_append o (c ∷ s) t = put_append (put_byte o c) s t
 -- what is put first, and then what is put in the output that it left
 pub put_both : (o : Output) {p q : Output} (s t : List ℕ) → p ≡ put o s → q ≡ put p t → q ≡ put o (s ++ t)
 put_both o s t e f = f ∙ ap (λ (x : Output). put x t) e ∙ sym (put_append o s t)
+
+-- behind a byte, the place is within the block, which is one of 4096 at most
+pub some_within : (o : Output) (c : ℕ) (s : List ℕ) → (put o (c ∷ s)).place ≤ 4096
+unfolding put put_byte place_in
+some_within o c [] = cond_both (ltb o.place 4096) o.place 0 (λ (n : ℕ). n + 1 ≤ 4096) (λ e. omega (arith, ltb-true _ _ e)) (λ e. omega arith)
+some_within o c (d ∷ s) = some_within (put_byte o c) d s
+
+-- and a place that was within it stays so, whatever is put
+pub put_within : (o : Output) (s : List ℕ) → o.place ≤ 4096 → (put o s).place ≤ 4096
+unfolding put
+put_within o [] h = h
+put_within o (c ∷ s) h = some_within o c s
 
 -- a number of k + 2 digits is ten times 10 ^ k at least
 at_least : (n k : ℕ) → IsDigitCount 10 1 n (suc (suc k)) → 10 ^ k * 10 ≤ n

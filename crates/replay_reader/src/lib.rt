@@ -1,7 +1,7 @@
 // The reader's cases of a script.
 #![tactic(auto)]
 
-ghost use Rattle.std.specs.Prelude.{◌≡◌, OnOk};
+ghost use Rattle.std.specs.Prelude.{◌≡◌, ◌≤◌, OnOk};
 ghost use Rattle.script.specs.Onward.{Onward};
 ghost use Rattle.lines.specs.Put.{put};
 ghost use Rattle.replay_reader.specs.Text.{reader_text, refusal_text};
@@ -26,7 +26,9 @@ pub fn put_reader(out: &mut Printer, reader: Reader)
 }
 
 // The line of a next_item call.
-fn put_call(out: &mut Printer, text: &[u8], next: Next) {
+fn put_call(out: &mut Printer, text: &[u8], next: Next)
+    ensures { out.new.place ≤ 4096 }
+{
     match next.answer {
         Ok(item) => out.put_item(item),
         Err(error) => put_refusal(out, error),
@@ -40,7 +42,9 @@ fn put_call(out: &mut Printer, text: &[u8], next: Next) {
 }
 
 // The line of a finish call.
-fn put_finished(out: &mut Printer, finished: Result<(), ParseError>) {
+fn put_finished(out: &mut Printer, finished: Result<(), ParseError>)
+    ensures { out.new.place ≤ 4096 }
+{
     match finished {
         Ok(()) => out.put_bytes(b"ok"),
         Err(error) => put_refusal(out, error),
@@ -49,7 +53,9 @@ fn put_finished(out: &mut Printer, finished: Result<(), ParseError>) {
 }
 
 // The case's last number says whether finish is called: 1, or 0.
-fn put_case(out: &mut Printer, case: TextCase<'_>) {
+fn put_case(out: &mut Printer, case: TextCase<'_>)
+    ensures { out.new.place ≤ 4096 }
+{
     out.put_bytes(b"case\n");
     let mut reader = Reader::new();
     for _ in 0..case.calls {
@@ -64,7 +70,8 @@ fn put_case(out: &mut Printer, case: TextCase<'_>) {
 
 // Runs the reader's case whose letter was read.
 pub fn run(out: &mut Printer, script: &mut Script<'_>) -> Result<(), Malformed>
-    ensures { OnOk result (Onward script.old script.new) }
+    ensures read { OnOk result (Onward script.old script.new) }
+    ensures within { out.old.place ≤ 4096 → out.new.place ≤ 4096 }
 {
     put_case(out, script.read_text_case(1)?);
     Ok(())

@@ -3,7 +3,7 @@ use Rattle.std.proofs.Common.{length, ◌<◌, ◌≡◌, ◌∙◌, refl, sym, 
 use Rattle.std.specs.Borrow.{Bor}
 use Rattle.script.specs.Onward.{Onward}
 use Rattle.script.specs.Numbers.{number_meant, Number, Field, Line, LetterLine, Each}
-use Rattle.script.specs.Script.{TextFrom, StyleFrom, CallFrom, TreeFrom, NumbersFrom}
+use Rattle.script.specs.Script.{TextFrom, CallFrom, TreeFrom, NumbersFrom}
 use Rattle.script.specs.declared.TextCase.{TextCase}
 use Rattle.script.specs.declared.WriterCase.{WriterCase}
 use Rattle.sise_serializer.specs.declared.calls.Call.{Call}
@@ -72,8 +72,12 @@ letter_past {letter} ns l = onward_both (onward_byte letter l.1) (line_past ns l
 pub text_past : {s : List ℕ} (u : List ℕ) {most : ℕ} (case : TextCase) → TextFrom s u most case → Onward s u
 text_past u case p = onward_past case.text.now u (line_past _ p.0)
 
-pub style_past : {s : List ℕ} (u : List ℕ) (case : WriterCase) → StyleFrom s u case → Onward s u
-style_past u case p = onward_past (case.style.line_break.now ++ case.style.indentation.now) u (line_past _ p.0)
+-- of a style the line alone is asked, and not that its strings are short
+pub style_past :
+    {s : List ℕ} (u : List ℕ) (case : WriterCase)
+    → Line s (case.room ∷ length case.style.line_break.now ∷ length case.style.indentation.now ∷ case.calls ∷ []) (case.style.line_break.now ++ case.style.indentation.now ++ 10 ∷ u)
+    → Onward s u
+style_past u case p = onward_past (case.style.line_break.now ++ case.style.indentation.now) u (line_past _ p)
 
 pub call_past : {s : List ℕ} (u : List ℕ) (call : Call) → CallFrom s u call → Onward s u
 call_past u (Call.PutAtom atom n) p = onward_past atom.now u (letter_past _ p.2)

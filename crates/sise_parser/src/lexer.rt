@@ -182,7 +182,7 @@ pub fn atom_run(text: &[u8], start: usize) -> usize
     start.max(text.len())
 }
 
-// The same for get_token behind a comment. It stays a call: made part of the token loop, it would cost each byte of the comment's loop one more count.
+// The same for lex_token behind a comment. It stays a call: made part of the token loop, it would cost each byte of the comment's loop one more count.
 #[inline(never)]
 fn next_run(text: &[u8], start: usize) -> usize
     ensures { result ≡ atom_run (drop start text.now) start }
@@ -220,7 +220,7 @@ fn lex_atom(text: &[u8], start: usize, run: usize) -> Result<Lexeme, Wrong>
 
 // The token at or after `from`, where no blank stands and the run of atom characters ends at `run`: comments and the blanks behind them are skipped.
 // Both loops count by hand: document 01 names the form, a token loop with a comment's loop inside that is left by its label.
-pub(crate) fn get_token(text: &[u8], from: usize, run: usize) -> Result<Lexeme, Wrong>
+pub(crate) fn lex_token(text: &[u8], from: usize, run: usize) -> Result<Lexeme, Wrong>
     requires stop { from < length text.now → is_blank (class_of (get_or text.now from 0)) ≡ false }
     requires run { run ≡ atom_run (drop from text.now) from }
     ensures { lexed_as result ≡ between (drop from text.now) from }
@@ -253,4 +253,12 @@ pub(crate) fn get_token(text: &[u8], from: usize, run: usize) -> Result<Lexeme, 
             _ => break 'token Err(wrong_chr(Context::Outside, text, at)),
         }
     }
+}
+
+// The token at or after `from`: blanks and comments are skipped. The calls of this crate have passed the blanks and the run themselves, and ask lex_token.
+pub(crate) fn get_token(text: &[u8], from: usize) -> Result<Lexeme, Wrong>
+    ensures { lexed_as result ≡ between (drop from text.now) from }
+{
+    let start = skip_blanks(text, from);
+    lex_token(text, start, atom_run(text, start))
 }

@@ -12,3 +12,6 @@ pub use lexer::{atom_run, is_quote_at, skip_blanks};
 pub use parser::{Parsed, Parser};
 pub use plain::{PlainItem, plain_item};
 pub use reader::{Next, ParsedItem, Phase, Reader, UnknownPhase, atom_bytes, item_ahead};
+
+#[cfg(test)]
+mod tests;

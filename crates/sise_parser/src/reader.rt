@@ -8,7 +8,7 @@ ghost use Rattle.sise_parser.specs.Phases.{ReadsPhase};
 ghost use Rattle.sise_parser.specs.Meaning.{lexeme_as, answer_as, next_as, finished_as};
 
 use crate::error::ParseError;
-use crate::lexer::{Lexeme, Token, atom_run, get_token, skip_blanks};
+use crate::lexer::{Lexeme, Token, atom_run, lex_token, skip_blanks};
 use crate::plain::{Seen, look};
 
 // Where the reader is in the text: before the first item, inside the outermost list, or after the last item.
@@ -215,7 +215,7 @@ impl Reader {
             return Err(ParseError::ParsingNotFinished);
         }
         let start = skip_blanks(text, self.position);
-        let found = get_token(text, start, atom_run(text, start))?;
+        let found = lex_token(text, start, atom_run(text, start))?;
         match found.token {
             Token::Eof => Ok(()),
             _ => Err(ParseError::ExpectedEof { pos: found.start }),
@@ -265,7 +265,7 @@ fn token_gives(text: &[u8], phase: Phase, lists: usize, start: usize, run: usize
     requires run { run ≡ atom_run (drop start text.now) start }
     ensures { next_as result ≡ next_item text.now (reader start phase lists) }
 {
-    match get_token(text, start, run) {
+    match lex_token(text, start, run) {
         Err(wrong) => answered(wrong.position, phase, lists, Err(wrong.error)),
         Ok(found) => {
             if phase == Phase::Beginning {

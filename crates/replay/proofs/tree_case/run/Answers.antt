@@ -6,7 +6,7 @@ pub loop-init : goal.loop-init
 loop-init c =
     onward_both (text_past _ c.in_ok-case.case c.in_ok-case.ensures)
     (onward_both (onward_byte 87 c.in_ok-read_byte.ensures)
-    (onward_both (style_past _ c.in_ok-writer.writer c.in_ok-writer.ensures)
+    (onward_both (style_past _ c.in_ok-writer.writer c.in_ok-writer.ensures.0)
     (onward_both (tree_past _ c.in_ok-calls.calls c.in_ok-calls.ensures)
     (numbers_past _ c.in_ok-read_numbers.field-0 c.in_ok-read_numbers.ensures))))
 

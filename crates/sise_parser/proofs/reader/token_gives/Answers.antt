@@ -20,14 +20,14 @@ unfolding token_at
 returns-in-Err c =
     c.answered.ensures
     ∙ next_bad c.args.text.now _ c.requires.sound c.requires.early
-    (ap lexed_as (sym c.in-Err.is) ∙ c.get_token.ensures)
+    (ap lexed_as (sym c.in-Err.is) ∙ c.lex_token.ensures)
 
 pub returns-then-eq : goal.returns-then-eq
 unfolding token_at
 returns-then-eq c =
     c.first_item.ensures
     ∙ next_beginning c.args.text.now _ c.requires.sound (same_true the_type _ _ _ (sym c.eq.ensures ∙ c.if-eq.true))
-    (ap lexed_as (sym c.in-Ok.is) ∙ c.get_token.ensures)
+    (ap lexed_as (sym c.in-Ok.is) ∙ c.lex_token.ensures)
 
 pub returns-else-eq : goal.returns-else-eq
 unfolding token_at
@@ -35,4 +35,4 @@ returns-else-eq c =
     let b = same_false the_type _ _ (sym c.eq.ensures ∙ c.if-eq.false) in
     c.inner_item.ensures
     ∙ next_parsing c.args.text.now _ c.requires.sound (is_parsing _ c.requires.early b)
-    (ap lexed_as (sym c.in-Ok.is) ∙ c.get_token.ensures)
+    (ap lexed_as (sym c.in-Ok.is) ∙ c.lex_token.ensures)

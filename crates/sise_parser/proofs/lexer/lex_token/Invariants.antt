@@ -1,4 +1,4 @@
--- `sise_parser::get_token` meets its contract. What the two loops keep: what the definition says from the place where the call began is what it says from
+-- `sise_parser::lex_token` meets its contract. What the two loops keep: what the definition says from the place where the call began is what it says from
 -- here, between tokens or in a comment.
 use mathlib.Core.Path.{◌≡◌}
 use mathlib.Core.Bool.{false}
@@ -8,7 +8,7 @@ use lib.ListN.{length, drop, get_or}
 use Rattle.sise_util.specs.Classes.{class_of}
 use Rattle.sise_parser.specs.Plain.{is_blank, atom_run}
 use Rattle.sise_parser.specs.Lexer.{Lexed, between, comment}
-use Rattle.sise_parser.proofs.lexer.get_token.Given as goal
+use Rattle.sise_parser.proofs.lexer.lex_token.Given as goal
 
 -- x is due at `at`, between tokens, where no blank stands and the run of atom characters ends at e
 pub record Between (x : Lexed) (text : List ℕ) (at e : ℕ) : Type 0 where

@@ -1,4 +1,4 @@
--- `sise_parser::get_token` meets its contract. What the two loops keep: what the definition says from the place where the call began is what it says from
+-- `sise_parser::lex_token` meets its contract. What the two loops keep: what the definition says from the place where the call began is what it says from
 -- here, between tokens or in a comment.
 use mathlib.Core.Path.{◌≡◌, refl, sym, ◌∙◌}
 use mathlib.Core.Logic.{⊎_elim}
@@ -8,7 +8,7 @@ use native.Mathlib.Nat.{le_refl}
 use Rattle.sise_parser.proofs.Steps.{between_end, comment_end, comment_line_end, comment_wrong, comment_on}
 use Rattle.sise_parser.proofs.ByteSteps.{between_comment, between_open, between_close, between_atom, between_string, between_wrong}
 use Rattle.sise_parser.proofs.Runs.{run_begins, run_none}
-use Rattle.sise_parser.proofs.lexer.get_token.Goals as goal
+use Rattle.sise_parser.proofs.lexer.lex_token.Goals as goal
 
 -- what a byte is not, the text's is not at its place
 other : {b d n : ℕ} → b ≡ d → (b ≡ n → ⊥) → d ≡ n → ⊥
